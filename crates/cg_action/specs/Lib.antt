@@ -7,3 +7,4 @@ pub mod OptionLaws
 pub mod ValueLaws
 pub mod CommandLaws
 pub mod KindLaws
+pub mod AnswerPrint

@@ -1,4 +1,5 @@
-//! Actions: what a client asks of the database, or that a server joins or leaves.
+//! Actions: what a client asks of the database, or that a server joins or leaves; and what the database holds and answers,
+//! as lines show it: entries, what a query found, and what an action did.
 //!
 //! An action has one spelling in bytes, and what it does has one printed form. `specs/ActionLimits.antt` says which
 //! actions there are: each of these is read again as it was written, and nothing else is read. Where bytes have no
@@ -6,9 +7,13 @@
 #![tactic(auto)]
 
 mod action;
+mod answer;
+mod answer_print;
 mod boxed;
 mod command;
 mod commands;
+mod effect;
+mod entry;
 mod laws;
 mod print;
 mod query;
@@ -17,10 +22,13 @@ mod value;
 mod writing;
 
 pub use action::{Action, ActionList, Kind, copy_actions};
+pub use answer::Answer;
 pub use boxed::{Boxed, BoxedOption};
 pub use cg_codec::put_action_id;
 pub use command::Cmd;
 pub use commands::{CmdList, copy_commands};
+pub use effect::Effect;
+pub use entry::{DbEntry, EntryList, TxtList};
 pub use laws::{actions_are_exact, spellings_stand_apart};
 pub use print::{Update, print_kind, print_value};
 pub use query::{Query, copy_query};

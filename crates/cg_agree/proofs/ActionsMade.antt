@@ -32,7 +32,7 @@ use Rattle.cg_agree.proofs.AlwaysMade.{always-holds}
 use Rattle.cg_agree_lemmas.specs.BookedCores.{each-booked}
 use Rattle.cg_agree_lemmas.specs.BookGrows.{IsNamed}
 use Rattle.cg_agree_lemmas.specs.BookStays.{event-book}
-use Rattle.cg_commit.specs.Holds.{run_on, cut_behind, Rising}
+use Rattle.cg_disk_records.specs.Holds.{run_on, cut_behind, Rising}
 use Rattle.cg_agree.proofs.EventsLead.{are-admitted, always-stands}
 use Rattle.cg_agree.proofs.LinesShown.{ArePrinted, each-find, lines-on}
 use Rattle.cg_agree_lemmas.specs.MadeShown.{IsThere, Adds, names_in}
@@ -41,8 +41,8 @@ use Rattle.cg_agree.proofs.PrimaryOne.{holds-here}
 use Rattle.cg_agree.proofs.RunForward.{IsStepOf}
 use Rattle.cg_agree_lemmas.specs.NodeFacts.{node-id}
 use Rattle.cg_agree.proofs.TellsRun.{HasTold, told-on, nothing-told}
-use Rattle.cg_commit.specs.CutRaiseLaws.{rising-raise, index-same, index-other}
-use Rattle.cg_commit.specs.RunMarkLaws.{run-head, run-rest}
+use Rattle.cg_disk_records.specs.CutRaiseLaws.{rising-raise, index-same, index-other}
+use Rattle.cg_disk_records.specs.RunMarkLaws.{run-head, run-rest}
 
 -- ---- names that run on, of each creator
 

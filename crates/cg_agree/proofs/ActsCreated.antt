@@ -16,7 +16,7 @@ use Rattle.cg_group.specs.State.{phase_of, delivered_to}
 use Rattle.cg_client.specs.Replica.{Held, State, RegPrim, TransPrim, ExchangeStates, ExchangeActions, Construct, No, Un, NonPrim, Left, Replica, created, last_index}
 use Rattle.cg_client.specs.Turn.{Turn, begin}
 use Rattle.cg_client.specs.Requests.{is_creating, next_action, create, create_kept, empty_buffer, buffer, settle, request, request_in}
-use Rattle.cg_commit.specs.Crash.{Disk}
+use Rattle.cg_disk_records.specs.Crash.{Disk}
 use Rattle.cg_model.specs.World.{NodeState, Up, Down as DownLife, Node, node_of, replica_of, running}
 use Rattle.cg_model.specs.Chronicle.{Told, Chronicle}
 use Rattle.cg_model.specs.Looks.{told_in, members_in, greens_of, said_in, OfCores}
@@ -35,7 +35,7 @@ use Rattle.cg_agree_lemmas.specs.TalkKept.{said-own, handed-own}
 use Rattle.cg_agree_lemmas.specs.TalkSame.{said-of, talk-from, content-same, acts-same}
 use Rattle.cg_agree_lemmas.specs.TurnActs.{content-turn, acts-turn}
 use Rattle.cg_agree_lemmas.specs.TurnTalk.{IsQuiet, CreatesOrIsQuiet, quiet-same, creating-regular, number-of, settle-each, ask-each, asks-kept, settles-kept}
-use Rattle.cg_commit.specs.Holds.{cut_behind}
+use Rattle.cg_disk_records.specs.Holds.{cut_behind}
 
 -- ---- what a turn creates
 

@@ -20,7 +20,7 @@ use Rattle.cg_client.specs.Requests.{settle}
 use Rattle.cg_client.specs.Install.{valid_yellow}
 use Rattle.cg_client.specs.Queries.{plain_reds}
 use Rattle.cg_disk_records.specs.Stored.{stored_of, whiten}
-use Rattle.cg_commit.specs.Crash.{new_disk, at_rest, recovered, disk_recovered}
+use Rattle.cg_disk_records.specs.Crash.{new_disk, at_rest, recovered, disk_recovered}
 use Rattle.cg_model.specs.World.{NodeState, Up, Down, Node, running, TransferState, World, replica_of, has_begun, is_left}
 use Rattle.cg_model.specs.Step.{begin_replica, joiner_replica, name_also}
 use Rattle.cg_model.specs.Chronicle.{Past, Attempt, Chronicle, no_chronicle}

@@ -16,7 +16,7 @@ use Rattle.cg_group.specs.State.{phase_of, regular_in, delivered_to, configurati
 use Rattle.cg_client.specs.Replica.{Held, State, RegPrim, TransPrim, ExchangeStates, ExchangeActions, Construct, No, Un, NonPrim, Left, Replica}
 use Rattle.cg_client.specs.Turn.{Turn, begin}
 use Rattle.cg_client.specs.Requests.{settle}
-use Rattle.cg_commit.specs.Crash.{Disk}
+use Rattle.cg_disk_records.specs.Crash.{Disk}
 use Rattle.cg_model.specs.World.{NodeState, Up, Down, Node, node_of, replica_of, running, is_left}
 use Rattle.cg_model.specs.Chronicle.{Past, Attempt, Chronicle}
 use Rattle.cg_model.specs.Looks.{past_of, greens_of, stood_of, core_of, conf_at, is_regular_at, members_in, ordered_in, said_in, placed_of, waiting_in, conf_of, attempt_of, received_by_all, snapshot_of}

@@ -17,7 +17,7 @@ use Rattle.cg_group.specs.Events.{with_message, with_receipt}
 use Rattle.cg_client.specs.Replica.{Held, Replica, fresh}
 use Rattle.cg_client.specs.Requests.{settle}
 use Rattle.cg_client.specs.Turn.{Turn, begin}
-use Rattle.cg_commit.specs.Crash.{new_disk}
+use Rattle.cg_disk_records.specs.Crash.{new_disk}
 use Rattle.cg_model.specs.World.{NodeState, Up, Down as DownLife, Node, TransferState, World, node_of, replica_of, has_begun}
 use Rattle.cg_model.specs.Step.{begin_replica, joiner_replica}
 use Rattle.cg_model.specs.Chronicle.{Past, Chronicle, no_chronicle, Told}

@@ -23,7 +23,7 @@ use Rattle.cg_client.specs.Summary.{summary_of}
 use Rattle.cg_model.specs.Attempts.{held_in}
 use Rattle.cg_model.specs.FactsExchange.{IsRecord, HasRecord}
 use Rattle.cg_disk_records.specs.Stored.{whiten, recovery_turn}
-use Rattle.cg_commit.specs.Crash.{Disk}
+use Rattle.cg_disk_records.specs.Crash.{Disk}
 use Rattle.cg_model.specs.World.{Up, Node, node_of, running}
 use Rattle.cg_model.specs.Chronicle.{Leaving, Told, Attempt, Chronicle}
 use Rattle.cg_model.specs.Looks.{greens_of, core_of, told_in, is_at, is_in, conf_at, ordered_in, attempt_of, left_count}

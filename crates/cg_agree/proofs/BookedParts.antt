@@ -28,7 +28,7 @@ use Rattle.cg_client.specs.Queries.{plain_reds}
 use Rattle.cg_exchange.specs.ExchangeStates.{is_usable, with_heard}
 use Rattle.cg_exchange.specs.ExchangeActions.{progress, is_next, mark_item, take_item, send_part, go_on}
 use Rattle.cg_exchange.specs.PlanEnd.{take_over, attempt, decide, end_plan}
-use Rattle.cg_replica_step.specs.Step.{on_message}
+use Rattle.cg_model.specs.ReplicaStep.{on_message}
 use Rattle.cg_model.specs.Chronicle.{Chronicle}
 use Rattle.cg_model.specs.Looks.{greens_of, ordered_in}
 use Rattle.cg_model.specs.Talk.{action_in}

@@ -34,7 +34,7 @@ use Rattle.cg_agree_lemmas.specs.PlanEnd.{AtPlanEnd, is_behind, behind-ended}
 use Rattle.cg_agree.proofs.PlanThere.{end-fits}
 use Rattle.cg_agree.proofs.ToldBeside.{told-id, told-fits}
 use Rattle.cg_agree_lemmas.specs.TurnKinds.{HasAttempted}
-use Rattle.cg_commit.specs.Holds.{cut_behind}
+use Rattle.cg_disk_records.specs.Holds.{cut_behind}
 
 module _ (c : Chronicle) (p : ℕ) (i : Invariant c) (may : may_make c (Hands p) ≡ true) (n : HandsNow c p) (is : is_exchanging n.replica.state ≡ true) (conf : ℕ) (heard : List Summary)
     (end : AtPlanEnd c p n.replica conf heard) (begun : HasAttempted conf heard n.replica (new c p i n)) where

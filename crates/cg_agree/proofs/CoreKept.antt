@@ -30,8 +30,8 @@ use Rattle.cg_exchange.specs.ExchangeStates.{is_usable, with_heard}
 use Rattle.cg_exchange.specs.ExchangeActions.{progress, is_next, mark_item, take_item, go_on}
 use Rattle.cg_construct.specs.Construct.{attempt_set, is_announced}
 use Rattle.cg_construct.specs.No.{no_with}
-use Rattle.cg_commit.specs.Crash.{Disk}
-use Rattle.cg_replica_step.specs.Step.{on_message, on_transitional, after_delivery}
+use Rattle.cg_disk_records.specs.Crash.{Disk}
+use Rattle.cg_model.specs.ReplicaStep.{on_message, on_transitional, after_delivery}
 use Rattle.cg_model.specs.World.{Up, Node, node_of, replica_of, running}
 use Rattle.cg_model.specs.Chronicle.{Chronicle}
 use Rattle.cg_knowledge.specs.Verdict.{decides}
@@ -59,7 +59,7 @@ use Rattle.cg_agree_lemmas.specs.TurnParts.{is_parted, stays-parted}
 use Rattle.cg_agree_lemmas.specs.HandsNow.{HandsNow, hands-now, found-now, running-now}
 use Rattle.cg_agree_lemmas.specs.RecordKept.{same-replica}
 use Rattle.cg_agree.proofs.LevelsKept.{start-kept}
-use Rattle.cg_commit.specs.Holds.{cut_behind}
+use Rattle.cg_disk_records.specs.Holds.{cut_behind}
 
 -- the state of the transitional phase of a primary component, and of its regular one
 abbrev pub is_trans : State → Bool

@@ -18,7 +18,7 @@ use Rattle.cg_client.specs.Replica.{Held, NonPrim, Replica}
 use Rattle.cg_client.specs.Turn.{begin}
 use Rattle.cg_client.specs.Requests.{settle}
 use Rattle.cg_disk_records.specs.Stored.{whiten, recovery_turn}
-use Rattle.cg_commit.specs.Crash.{Disk}
+use Rattle.cg_disk_records.specs.Crash.{Disk}
 use Rattle.cg_model.specs.World.{Up, Node, node_of, replica_of, running, has_begun}
 use Rattle.cg_model.specs.Step.{joiner_replica}
 use Rattle.cg_model.specs.Chronicle.{Chronicle}

@@ -18,11 +18,11 @@ use Rattle.cg_model.specs.Fronts.{Front}
 use Rattle.cg_model.specs.Looks.{top_of}
 use Rattle.cg_model.specs.Levels.{line_at, reached_at}
 use Rattle.cg_model.specs.Noting.{chronicle_step, chronicle_after}
-use Rattle.cg_commit.specs.Holds.{run_on, Rising}
+use Rattle.cg_disk_records.specs.Holds.{run_on, Rising}
 use Rattle.cg_model.specs.Played.{StandsBeside, AreAdmitted, HoldsFrom, AlwaysHolds, with_world}
 use Rattle.cg_agree_lemmas.specs.FrontFacts.{Front-take, take-Front}
-use Rattle.cg_commit.specs.CutRaiseLaws.{rising-raise, index-same, index-other}
-use Rattle.cg_commit.specs.RunMarkLaws.{run-head, run-rest}
+use Rattle.cg_disk_records.specs.CutRaiseLaws.{rising-raise, index-same, index-other}
+use Rattle.cg_disk_records.specs.RunMarkLaws.{run-head, run-rest}
 use Rattle.cg_agree_lemmas.specs.OrderTold.{order_told}
 use Rattle.cg_agree.proofs.OneLine.{IsOnTop}
 use Rattle.cg_agree.proofs.OrderOnTop.{on_top-runs}

@@ -9,7 +9,7 @@ use Rattle.cg_base.specs.Cuts.{index_in, raise}
 use Rattle.cg_base.specs.Ids.{names}
 use Rattle.cg_action.specs.declared.action.Action.{Action}
 use Rattle.cg_action.specs.declared.query.Query.{Query}
-use Rattle.cg_answer.specs.declared.entry.DbEntry.{DbEntry}
+use Rattle.cg_action.specs.declared.entry.DbEntry.{DbEntry}
 use Rattle.cg_db.specs.Apply.{apply, fold_actions}
 use Rattle.cg_db.specs.Find.{answer}
 use Rattle.cg_queue.specs.Queue.{green_count, names_of}
@@ -47,11 +47,11 @@ use Rattle.cg_agree.proofs.OrderReached.{in-order}
 use Rattle.cg_agree_lemmas.specs.OrderTold.{order_told}
 use Rattle.cg_agree.proofs.OrderedActions.{IsShownAs, shown-as, each-shown_as, all-as, ordered-as}
 use Rattle.cg_agree.proofs.RedsShown.{each-front, reds-shown}
-use Rattle.cg_commit.specs.Holds.{run_on}
+use Rattle.cg_disk_records.specs.Holds.{run_on}
 use Rattle.cg_agree.proofs.RunPrefix.{world-last, comes}
 use Rattle.cg_agree.proofs.TellsRun.{has-told}
 use Rattle.cg_agree_lemmas.specs.TurnRows.{each-named}
-use Rattle.cg_commit.specs.RunMarkLaws.{run-head, run-rest}
+use Rattle.cg_disk_records.specs.RunMarkLaws.{run-head, run-rest}
 
 -- ---- lists
 

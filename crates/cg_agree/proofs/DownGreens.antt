@@ -9,9 +9,9 @@ use Rattle.cg_action.specs.declared.action.Action.{Action}
 use Rattle.cg_group.specs.EachLaws.{Each, Each-append, Each-weaker, Each-list_all}
 use Rattle.cg_queue.specs.Queue.{green_count, names_of}
 use Rattle.cg_client.specs.Replica.{Held}
-use Rattle.cg_commit.specs.Crash.{Disk}
-use Rattle.cg_commit.specs.Holds.{Rising, cut_behind}
-use Rattle.cg_commit.specs.CutRaiseLaws.{behind-rises, index-same, rising-raise}
+use Rattle.cg_disk_records.specs.Crash.{Disk}
+use Rattle.cg_disk_records.specs.Holds.{Rising, cut_behind}
+use Rattle.cg_disk_records.specs.CutRaiseLaws.{behind-rises, index-same, rising-raise}
 use Rattle.cg_model.specs.Agreement.{Reaches, order_recovered}
 use Rattle.cg_model.specs.Chronicle.{Chronicle}
 use Rattle.cg_model.specs.FactsBooks.{IsNameShown, IsToShow, LifeMade, LifeShown, LifeToShow, MadeFits, OrderFits, NodeIsDown, NodeMade, NodeShown, NodeToShow}

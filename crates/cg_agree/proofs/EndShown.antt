@@ -26,7 +26,7 @@ use Rattle.cg_model.specs.Fronts.{Front, When, IsSomeWith}
 use Rattle.cg_model.specs.Looks.{attempt_of, attempt_at, top_of, told_in, is_in, left_count}
 use Rattle.cg_model.specs.Levels.{bound_in, line_at, reach_at, is_dead, is_frozen, is_installed, is_live, is_out_lacking, is_record_of, is_evidence, names_with, prim_at, prim_of}
 use Rattle.cg_model.specs.FactsTalk.{AreTold}
-use Rattle.cg_commit.specs.Holds.{run_on, cut_behind}
+use Rattle.cg_disk_records.specs.Holds.{run_on, cut_behind}
 use Rattle.cg_model.specs.FactsExchange.{HasRecord, IsRecord}
 use Rattle.cg_model.specs.FactsAttempts.{IsWitnessed, AreWitnessed, is_without}
 use Rattle.cg_model.specs.FactsGreens.{Covers}
@@ -42,7 +42,7 @@ use Rattle.cg_agree_lemmas.specs.Knowledge.{known-of, each-bounded, sender-told,
 use Rattle.cg_agree.proofs.NewestLevel.{ids-weighted, newest-level, installed-inside, prim-top, frozen-by}
 use Rattle.cg_agree_lemmas.specs.ReachFacts.{line_in}
 use Rattle.cg_agree_lemmas.specs.ReachWorld.{when-is}
-use Rattle.cg_commit.specs.RunLaws.{run_on-append}
+use Rattle.cg_disk_records.specs.RunLaws.{run_on-append}
 use Rattle.cg_agree.proofs.ToldLine.{Behind, told-conf, told-fits, told-levels, told-run, told-line, told-reach, told-front}
 use Rattle.cg_agree_lemmas.specs.RunFronts.{run_on-front}
 

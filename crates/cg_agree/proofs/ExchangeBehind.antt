@@ -23,7 +23,7 @@ use Rattle.cg_client.specs.Turn.{Turn, begin, go_to}
 use Rattle.cg_client.specs.Marks.{is_unmade, marked, mark_red}
 use Rattle.cg_construct.specs.Construct.{attempt_set, is_announced, construct_with}
 use Rattle.cg_construct.specs.No.{no_with}
-use Rattle.cg_replica_step.specs.Step.{on_message, after_delivery as take_delivery}
+use Rattle.cg_model.specs.ReplicaStep.{on_message, after_delivery as take_delivery}
 use Rattle.cg_model.specs.FactsReplica.{is_exchanging}
 use Rattle.cg_model.specs.World.{replica_of}
 use Rattle.cg_model.specs.Chronicle.{Told, Chronicle}

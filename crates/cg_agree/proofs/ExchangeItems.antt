@@ -22,7 +22,7 @@ use Rattle.cg_model.specs.Fronts.{IsSomeWith}
 use Rattle.cg_model.specs.Looks.{greens_of, members_in, ordered_in}
 use Rattle.cg_model.specs.Talk.{Talk, is_full, is_through}
 use Rattle.cg_model.specs.Facts.{Invariant}
-use Rattle.cg_commit.specs.Holds.{cut_behind}
+use Rattle.cg_disk_records.specs.Holds.{cut_behind}
 use Rattle.cg_model.specs.FactsTalk.{AreTold, handed_talk}
 use Rattle.cg_model.specs.FactsExchange.{IsUnmoved, IsGoingOn, best_told, IsInExchange}
 use Rattle.cg_agree_lemmas.specs.ExchangeHands.{EndsAs, grown-front}

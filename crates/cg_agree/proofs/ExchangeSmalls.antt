@@ -18,7 +18,7 @@ use Rattle.cg_client.specs.Turn.{Turn, begin}
 use Rattle.cg_client.specs.Requests.{settle, is_creating, create, create_kept, empty_buffer, request_in, request}
 use Rattle.cg_client.specs.Summary.{summary_of}
 use Rattle.cg_disk_records.specs.Stored.{stored_of, whiten}
-use Rattle.cg_commit.specs.Crash.{Disk, new_disk, at_rest, recovered, disk_recovered}
+use Rattle.cg_disk_records.specs.Crash.{Disk, new_disk, at_rest, recovered, disk_recovered}
 use Rattle.cg_model.specs.World.{NodeState, Up, Down, Node, running, TransferState, World, node_of, replica_of, has_begun, is_left}
 use Rattle.cg_model.specs.Step.{begin_replica, joiner_replica}
 use Rattle.cg_model.specs.Chronicle.{Past, Told, Chronicle, no_chronicle}

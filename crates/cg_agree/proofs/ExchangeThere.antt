@@ -39,7 +39,7 @@ use Rattle.cg_model.specs.FactsNet.{IsPhase}
 use Rattle.cg_model.specs.FactsReplica.{IsMadeOf, IsModeData, IsCore, IsLined}
 use Rattle.cg_model.specs.FactsExchange.{IsUnmoved, IsGoingOn, IsInExchange, greens_behind, best_told}
 use Rattle.cg_model.specs.FactsTalk.{AreTold, handed_talk, IsStateIn, IsContent}
-use Rattle.cg_commit.specs.Holds.{cut_behind}
+use Rattle.cg_disk_records.specs.Holds.{cut_behind}
 use Rattle.cg_agree.proofs.EndReached.{best-bounds}
 use Rattle.cg_agree_lemmas.specs.FrontFacts.{Front-take, Front-map, take-Front, split_by_Front}
 use Rattle.cg_agree_lemmas.specs.HandNext.{take-next, talk-append, legal-at}
@@ -50,10 +50,10 @@ use Rattle.cg_agree_lemmas.specs.MessageThere.{message-made, message-content}
 use Rattle.cg_agree.proofs.PartsOwn.{white-held, HoldsAll}
 use Rattle.cg_agree_lemmas.specs.PlanItems.{plan-sender}
 use Rattle.cg_agree_lemmas.specs.PlanProgress.{AreBeside, IsBehind, greens_there, length-taken, taken-all, item-green, item-red}
-use Rattle.cg_commit.specs.CutRaiseLaws.{rising-behind, behind-rises}
+use Rattle.cg_disk_records.specs.CutRaiseLaws.{rising-behind, behind-rises}
 use Rattle.cg_agree_lemmas.specs.TalkEarly.{all-member, due_parts}
 use Rattle.cg_agree.proofs.ToldBeside.{told-fits, told-front, told-so_far, IsBest, best-of_heard, mine-of, beside}
-use Rattle.cg_commit.specs.RunLaws.{cut_behind-append}
+use Rattle.cg_disk_records.specs.RunLaws.{cut_behind-append}
 
 -- ---- marks discard nothing
 

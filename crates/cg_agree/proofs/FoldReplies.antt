@@ -9,7 +9,7 @@ use Rattle.cg_base.specs.declared.action_id.ActionId.{ActionId}
 use Rattle.cg_base.specs.Cuts.{index_in}
 use Rattle.cg_base.specs.Ids.{same_id, names}
 use Rattle.cg_action.specs.declared.action.Action.{Action}
-use Rattle.cg_answer.specs.declared.entry.DbEntry.{DbEntry}
+use Rattle.cg_action.specs.declared.entry.DbEntry.{DbEntry}
 use Rattle.cg_db.specs.Apply.{apply, fold_actions}
 use Rattle.cg_db.specs.Find.{answer, query_of}
 use Rattle.cg_queue.specs.Queue.{names_of}
@@ -17,8 +17,8 @@ use Rattle.cg_report.specs.declared.entry.Reply.{Reply}
 use Rattle.cg_client.specs.Replica.{Replica, created}
 use Rattle.cg_client.specs.Turn.{Turn}
 use Rattle.cg_client.specs.Marks.{is_first, after_owed, reply_to, given_to}
-use Rattle.cg_replica_step.specs.Step.{replica_step}
-use Rattle.cg_commit.specs.Crash.{Disk, EventEnd, Runs, Crashes, end_event}
+use Rattle.cg_model.specs.ReplicaStep.{replica_step}
+use Rattle.cg_disk_records.specs.Crash.{Disk, EventEnd, Runs, Crashes, end_event}
 use Rattle.cg_model.specs.World.{Node, World, has_begun, running, node_of, replica_of}
 use Rattle.cg_model.specs.Show.{StepInProgress}
 use Rattle.cg_model.specs.Step.{happens}
@@ -32,11 +32,11 @@ use Rattle.cg_model.specs.FactsReplica.{AreBooked}
 use Rattle.cg_model.specs.Smalls.{smalls_in}
 use Rattle.cg_model.specs.Played.{AlwaysHolds}
 use Rattle.cg_agree_lemmas.specs.FrontFacts.{Front-of_append, split_by_Front}
-use Rattle.cg_commit.specs.Holds.{run_on, cut_behind, Rising}
+use Rattle.cg_disk_records.specs.Holds.{run_on, cut_behind, Rising}
 use Rattle.cg_agree_lemmas.specs.BookGrows.{same-self}
 use Rattle.cg_agree.proofs.ShownActions.{each-action, actions-shown}
 use Rattle.cg_agree.proofs.FoldHeld.{IsInOrder, in-order}
-use Rattle.cg_commit.specs.CutRaiseLaws.{rising-behind}
+use Rattle.cg_disk_records.specs.CutRaiseLaws.{rising-behind}
 use Rattle.cg_agree.proofs.CreatorNumbered.{order-runs}
 use Rattle.cg_agree_lemmas.specs.TurnWorlds.{life_at}
 use Rattle.cg_agree_lemmas.specs.TurnReplies.{db_behind, replies_in}
@@ -53,7 +53,7 @@ use Rattle.cg_agree_lemmas.specs.LivesSince.{lives-next}
 use Rattle.cg_agree.proofs.OwedRun.{LivesAt, OwedAt, step-shows}
 use Rattle.cg_agree_lemmas.specs.NamesTimes.{named-times, times-named, times-passing, times-failing, times-once, in-times, times-contains, contains-in, placed-within, within-placed}
 use Rattle.cg_agree.proofs.OwedKept.{whitened-created, no-more, meets, runs-now, created-now, was, says, turned-lives, owed-next, owed-run}
-use Rattle.cg_commit.specs.RunMarkLaws.{run-names}
+use Rattle.cg_disk_records.specs.RunMarkLaws.{run-names}
 
 -- ---- where a reply comes from
 

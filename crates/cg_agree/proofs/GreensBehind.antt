@@ -12,7 +12,7 @@ use Rattle.cg_client.specs.Replica.{State, RegPrim, TransPrim, ExchangeStates, E
 use Rattle.cg_client.specs.Turn.{Turn, begin}
 use Rattle.cg_client.specs.Requests.{is_creating, create, create_kept, empty_buffer, buffer, settle, request_in}
 use Rattle.cg_action.specs.declared.action.Kind.{Kind}
-use Rattle.cg_commit.specs.Crash.{Disk}
+use Rattle.cg_disk_records.specs.Crash.{Disk}
 use Rattle.cg_model.specs.World.{NodeState, Up, Down, Node, World, running, node_of, replica_of}
 use Rattle.cg_model.specs.Chronicle.{Past, Chronicle}
 use Rattle.cg_model.specs.Looks.{past_of, greens_of}

@@ -31,7 +31,7 @@ use Rattle.cg_exchange.specs.ExchangeActions.{send_part, progress, go_on, is_nex
 use Rattle.cg_exchange.specs.ExchangeStates.{is_usable, with_heard}
 use Rattle.cg_construct.specs.Construct.{attempt_set, is_announced, construct_with}
 use Rattle.cg_construct.specs.No.{no_record, no_with}
-use Rattle.cg_replica_step.specs.Step.{Deliveries, replica_step, on_message, on_transitional, on_regular, after_delivery}
+use Rattle.cg_model.specs.ReplicaStep.{Deliveries, replica_step, on_message, on_transitional, on_regular, after_delivery}
 use Rattle.cg_model.specs.FactsReplica.{is_primary}
 use Rattle.cg_agree_lemmas.specs.GreenMembers.{SameMembers, redden-same, own-same, creates-same}
 use Rattle.cg_agree.proofs.ItemsReached.{IsItemWithin}

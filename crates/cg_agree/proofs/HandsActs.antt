@@ -21,8 +21,8 @@ use Rattle.cg_client.specs.Install.{install}
 use Rattle.cg_client.specs.Marks.{after_first}
 use Rattle.cg_construct.specs.Construct.{attempt_set, is_announced, construct_with}
 use Rattle.cg_queue.specs.Queue.{names_of}
-use Rattle.cg_replica_step.specs.Step.{on_message}
-use Rattle.cg_commit.specs.Crash.{Disk}
+use Rattle.cg_model.specs.ReplicaStep.{on_message}
+use Rattle.cg_disk_records.specs.Crash.{Disk}
 use Rattle.cg_model.specs.World.{Node, replica_of, running}
 use Rattle.cg_model.specs.Chronicle.{Attempt, Chronicle}
 use Rattle.cg_model.specs.Looks.{greens_of, attempt_of, members_in, ordered_in, placed_of, waiting_in, said_in}
@@ -44,7 +44,7 @@ use Rattle.cg_agree_lemmas.specs.TalkEarly.{IsEarly, early-legal, early-none, al
 use Rattle.cg_agree_lemmas.specs.TalkKept.{said-own, handed-own}
 use Rattle.cg_agree_lemmas.specs.TalkSame.{said-of}
 use Rattle.cg_agree_lemmas.specs.TurnActs.{acts-turn}
-use Rattle.cg_commit.specs.Holds.{cut_behind}
+use Rattle.cg_disk_records.specs.Holds.{cut_behind}
 
 -- who comes to the end of the plan by a message knows all that some member knew, and waits for nothing
 pub record KnowsAll (set : List ℕ) (p : ℕ) (t : Talk) (h : Held) : Type 0 where

@@ -17,7 +17,7 @@ use Rattle.cg_client.specs.Replica.{Held, Replica, fresh}
 use Rattle.cg_client.specs.Requests.{settle}
 use Rattle.cg_client.specs.Turn.{Turn, begin}
 use Rattle.cg_disk_records.specs.Stored.{stored_of, whiten}
-use Rattle.cg_commit.specs.Crash.{new_disk, at_rest, recovered, disk_recovered}
+use Rattle.cg_disk_records.specs.Crash.{new_disk, at_rest, recovered, disk_recovered}
 use Rattle.cg_members.specs.Servers.{is_server}
 use Rattle.cg_model.specs.World.{NodeState, Up, Down as DownLife, Node, TransferState, World, running, node_of, replica_of, has_begun, set_life, is_left}
 use Rattle.cg_model.specs.Step.{begin_replica, joiner_replica, without_snapshot}

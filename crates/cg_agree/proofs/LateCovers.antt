@@ -69,8 +69,8 @@ use Rattle.cg_knowledge.specs.Summaries.{remaining}
 use Rattle.cg_knowledge.specs.Verdict.{decides}
 use Rattle.cg_queue.specs.Queue.{names_of}
 use Rattle.cg_records.specs.declared.vulnerable.Vulnerable.{Vulnerable}
-use Rattle.cg_commit.specs.Crash.{Disk}
-use Rattle.cg_replica_step.specs.Step.{on_transitional, after_delivery as take_one}
+use Rattle.cg_disk_records.specs.Crash.{Disk}
+use Rattle.cg_model.specs.ReplicaStep.{on_transitional, after_delivery as take_one}
 use Rattle.cg_wire.specs.declared.message.Msg.{Msg}
 
 module _ (c : Chronicle) (i : Invariant c) (p : ℕ) (r : Replica) (ins : Installing c p r) (attempting : is_attempting r.state ≡ true) where

@@ -11,7 +11,7 @@ use Rattle.cg_agree_lemmas.specs.HeldAll.{installed_by}
 use Rattle.cg_agree_lemmas.specs.HeldInstall.{IsAllYellow, with_yellow_mark, yellow-oneself, yellow-placed}
 use Rattle.cg_agree_lemmas.specs.HeldMarks.{IsOneself, rising-red}
 use Rattle.cg_agree_lemmas.specs.HeldMessages.{installed-all, installed-yellow, no-yellow}
-use Rattle.cg_commit.specs.RunLaws.{cut_behind-append}
+use Rattle.cg_disk_records.specs.RunLaws.{cut_behind-append}
 use Rattle.cg_agree_lemmas.specs.StatesSaid.{count-quiet}
 use Rattle.cg_agree_lemmas.specs.TurnKinds.{installs-to}
 use Rattle.cg_agree_lemmas.specs.TurnValues.{even-mark_yellow}
@@ -30,7 +30,7 @@ use Rattle.cg_construct.specs.No.{no_with}
 use Rattle.cg_knowledge.specs.Summaries.{remaining}
 use Rattle.cg_knowledge.specs.Verdict.{decides}
 use Rattle.cg_queue.specs.Queue.{marked_yellow, names_of}
-use Rattle.cg_replica_step.specs.Step.{on_message}
+use Rattle.cg_model.specs.ReplicaStep.{on_message}
 use Rattle.cg_wire.specs.declared.message.Msg.{Msg}
 use Rattle.cg_wire.specs.declared.message.Msg.TheVariants.{Action as ActionMsg, Cpc, GreenItem, RedItem, State as StateMsg}
 

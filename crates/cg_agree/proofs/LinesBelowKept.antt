@@ -21,7 +21,7 @@ use Rattle.cg_group.specs.Events.{delivery_at, deliveries_at}
 use Rattle.cg_client.specs.Replica.{Held, State, RegPrim, TransPrim, ExchangeStates, ExchangeActions, Construct, No, Un, NonPrim, Left, Replica, fresh, fresh_held}
 use Rattle.cg_client.specs.Turn.{Turn, begin}
 use Rattle.cg_client.specs.Requests.{is_creating, next_action, create, create_kept, empty_buffer, buffer, settle, request_in, request}
-use Rattle.cg_commit.specs.Crash.{Disk, new_disk}
+use Rattle.cg_disk_records.specs.Crash.{Disk, new_disk}
 use Rattle.cg_model.specs.World.{NodeState, Up, Down, Node, World, running, node_of, replica_of, has_begun}
 use Rattle.cg_model.specs.Step.{joiner_replica, name_also, begin_replica}
 use Rattle.cg_model.specs.Chronicle.{Chronicle, no_chronicle}
@@ -54,7 +54,7 @@ use Rattle.cg_agree_lemmas.specs.BookGrows.{IsNamed}
 use Rattle.cg_agree_lemmas.specs.BookedCores.{each-booked, front-each}
 use Rattle.cg_agree.proofs.CopiesBooked.{UnbegunMadeNone, greens-on_line, joiners-booked}
 use Rattle.cg_agree.proofs.MadeOnceKept.{made_once-kept}
-use Rattle.cg_commit.specs.Holds.{run_on}
+use Rattle.cg_disk_records.specs.Holds.{run_on}
 
 -- ---- the actions that a turn makes
 

@@ -19,8 +19,8 @@ use Rattle.cg_group.specs.Events.{delivery_at, deliveries_at}
 use Rattle.cg_client.specs.Replica.{Held, State, RegPrim, TransPrim, ExchangeStates, ExchangeActions, Construct, No, Un, NonPrim, Left, Replica, created}
 use Rattle.cg_client.specs.Turn.{Turn, begin}
 use Rattle.cg_client.specs.Requests.{is_creating, create_kept, buffer, settle, request_in, request}
-use Rattle.cg_replica_step.specs.Recorded.{OfMessage}
-use Rattle.cg_commit.specs.Crash.{Disk}
+use Rattle.cg_model.specs.Recorded.{OfMessage}
+use Rattle.cg_disk_records.specs.Crash.{Disk}
 use Rattle.cg_model.specs.FactsBooks.{HoldsFine}
 use Rattle.cg_model.specs.World.{NodeState, Up, Down, Node, TransferState, running, node_of, replica_of}
 use Rattle.cg_model.specs.Attempts.{held_in}
@@ -32,8 +32,8 @@ use Rattle.cg_model.specs.Facts.{Invariant}
 use Rattle.cg_model.specs.Played.{AtRest}
 use Rattle.cg_model.specs.Small.{Small, Starts, Makes, Enters, Orders, Receives, Hands, Leaves, Asks, Settles, Commits, Crashes, Recovers, Copies, Joins, small_step, start, newly_green, turning, turning_as, take_all, coming, handed_next, leaving, take_request, take_newest, take_next, take_parting, newest_conf, commit_as, crash_as, recover_as, copy_as, join_with}
 use Rattle.cg_model.specs.Smalls.{may_make, is_set}
-use Rattle.cg_commit.specs.Holds.{run_on, cut_behind}
-use Rattle.cg_commit.specs.CutRaiseLaws.{behind-rises}
+use Rattle.cg_disk_records.specs.Holds.{run_on, cut_behind}
+use Rattle.cg_disk_records.specs.CutRaiseLaws.{behind-rises}
 use Rattle.cg_agree_lemmas.specs.HeldMarks.{IsOneself, rising-red}
 use Rattle.cg_agree_lemmas.specs.CoresKept.{TurnKeeps, cores-weaker, held-known}
 use Rattle.cg_agree_lemmas.specs.CoresSmall.{StepKeeps, cores-kept, ready-of}
@@ -51,7 +51,7 @@ use Rattle.cg_agree_lemmas.specs.BookedRows.{AllFine, each-drop, fine-rule, crea
 use Rattle.cg_agree_lemmas.specs.BookGrows.{IsNamed, cut_of, rising-of, IsCounted, named-more, named-all, settle-counted, request-counted, counted-first}
 use Rattle.cg_agree_lemmas.specs.BookedCores.{FineHeld, JoinersBooked, cores-booked, booked-closed, placed-booked, waiting-booked, greens-booked, memory-booked, disk-booked, copies-booked, messages-booked, waits-booked}
 use Rattle.cg_agree_lemmas.specs.BookCounts.{BookCounts, counts-same, counts-turning, book-turn, counts-commit, counts-crash, counts-recover, counts-join, counts-start}
-use Rattle.cg_commit.specs.RunLaws.{cut_behind-append}
+use Rattle.cg_disk_records.specs.RunLaws.{cut_behind-append}
 
 -- ---- requests
 

@@ -35,10 +35,10 @@ use Rattle.cg_agree.proofs.MadeTold.{names-last, each-contains, step-adds, made-
 use Rattle.cg_agree.proofs.OrderReached.{in-order}
 use Rattle.cg_agree_lemmas.specs.OrderTold.{order_told}
 use Rattle.cg_agree.proofs.PositionsGrow.{down-still}
-use Rattle.cg_commit.specs.Holds.{cut_behind}
+use Rattle.cg_disk_records.specs.Holds.{cut_behind}
 use Rattle.cg_agree.proofs.RunPrefix.{world-last, ComesThere, comes}
 use Rattle.cg_agree.proofs.TellsRun.{HasTold, has-told}
-use Rattle.cg_commit.specs.RunMarkLaws.{run-names}
+use Rattle.cg_disk_records.specs.RunMarkLaws.{run-names}
 
 -- ---- the names that were shown as made
 

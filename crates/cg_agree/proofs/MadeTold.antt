@@ -25,8 +25,8 @@ use Rattle.cg_model.specs.Noting.{chronicle_step}
 use Rattle.cg_model.specs.Played.{StandsBeside}
 use Rattle.cg_model.specs.FactsReplica.{AreBooked}
 use Rattle.cg_model.specs.Making.{made_of_action}
-use Rattle.cg_commit.specs.Holds.{run_on, cut_behind}
-use Rattle.cg_commit.specs.RunLaws.{cut_behind-append, run_on-append}
+use Rattle.cg_disk_records.specs.Holds.{run_on, cut_behind}
+use Rattle.cg_disk_records.specs.RunLaws.{cut_behind-append, run_on-append}
 use Rattle.cg_agree_lemmas.specs.BookGrows.{IsNamed, named_in}
 use Rattle.cg_agree_lemmas.specs.BookedCores.{each-booked}
 use Rattle.cg_agree_lemmas.specs.BookStays.{event-book}
@@ -34,7 +34,7 @@ use Rattle.cg_agree.proofs.MadeBookKept.{event-made}
 use Rattle.cg_agree_lemmas.specs.MadeShown.{IsThere, AreLast, Adds, names_in}
 use Rattle.cg_agree.proofs.MadeEvents.{AddsSome, event-adds}
 use Rattle.cg_agree.proofs.RunForward.{IsStepOf}
-use Rattle.cg_commit.specs.RunMarkLaws.{run-names}
+use Rattle.cg_disk_records.specs.RunMarkLaws.{run-names}
 
 -- what was shown as made so far, against the world and the book
 pub record IsMadeTold (earlier : List Step) (c : Chronicle) (w : World) : Type 0 where

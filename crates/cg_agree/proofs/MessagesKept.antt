@@ -14,7 +14,7 @@ use Rattle.cg_group.specs.LookupLaws.{unordered_of-set, standing_of-down, standi
 use Rattle.cg_client.specs.Replica.{Replica}
 use Rattle.cg_client.specs.Turn.{Turn, begin}
 use Rattle.cg_client.specs.Requests.{settle}
-use Rattle.cg_commit.specs.Crash.{Disk, recovered}
+use Rattle.cg_disk_records.specs.Crash.{Disk, recovered}
 use Rattle.cg_model.specs.World.{NodeState, Up, Down, Node, World, node_of, has_begun, replica_of}
 use Rattle.cg_model.specs.Step.{begin_replica}
 use Rattle.cg_model.specs.Chronicle.{Chronicle}

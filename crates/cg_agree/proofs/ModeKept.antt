@@ -17,8 +17,8 @@ use Rattle.cg_client.specs.Replica.{Held, State, RegPrim, TransPrim, ExchangeSta
 use Rattle.cg_client.specs.Turn.{Turn, begin}
 use Rattle.cg_client.specs.Requests.{settle}
 use Rattle.cg_disk_records.specs.Stored.{stored_of, whiten, recovery_turn}
-use Rattle.cg_commit.specs.Crash.{Disk, new_disk, at_rest, recovered, disk_recovered}
-use Rattle.cg_replica_step.specs.Step.{on_transitional, after_delivery}
+use Rattle.cg_disk_records.specs.Crash.{Disk, new_disk, at_rest, recovered, disk_recovered}
+use Rattle.cg_model.specs.ReplicaStep.{on_transitional, after_delivery}
 use Rattle.cg_model.specs.World.{NodeState, Up, Down, Node, World, TransferState, with_node, node_of, replica_of, running, has_begun, is_left}
 use Rattle.cg_model.specs.Step.{joiner_replica, without_snapshot}
 use Rattle.cg_model.specs.Chronicle.{Attempt, Chronicle, no_chronicle}
@@ -61,7 +61,7 @@ use Rattle.cg_agree.proofs.ModeStill.{mode-still}
 use Rattle.cg_agree.proofs.ModeCounted.{Flow, flow-none, counted-flow, counted-installed}
 use Rattle.cg_agree.proofs.ModeStates.{in-primary-as, in-attempt-as, attempting-data, from-attempting, from-primary, parted-data, quiet-flow}
 use Rattle.cg_agree.proofs.ModeHands.{phase-data, hands-data}
-use Rattle.cg_commit.specs.Holds.{cut_behind}
+use Rattle.cg_disk_records.specs.Holds.{cut_behind}
 
 -- ---- replicas behind a step
 

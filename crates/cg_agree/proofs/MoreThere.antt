@@ -14,7 +14,7 @@ use Rattle.cg_group.specs.State.{Configuration}
 use Rattle.cg_group.specs.Events.{with_message, with_receipt}
 use Rattle.cg_group.specs.GrownLaws.{Grows-message, Grows-receipt}
 use Rattle.cg_client.specs.Requests.{settle}
-use Rattle.cg_commit.specs.Crash.{Disk, recovered}
+use Rattle.cg_disk_records.specs.Crash.{Disk, recovered}
 use Rattle.cg_client.specs.Replica.{Held, Replica}
 use Rattle.cg_model.specs.World.{NodeState, Up, Down as DownLife, Node, World, running, node_of, has_begun, replica_of}
 use Rattle.cg_model.specs.Step.{begin_replica}

@@ -23,7 +23,7 @@ use Rattle.cg_model.specs.Small.{Small, small_step}
 use Rattle.cg_model.specs.Smalls.{may_make}
 use Rattle.cg_model.specs.Noting.{played}
 use Rattle.cg_agree_lemmas.specs.FrontFacts.{Front-trans, Front-length, Front-behind, Front-of_both, Front-map}
-use Rattle.cg_commit.specs.Holds.{run_on}
+use Rattle.cg_disk_records.specs.Holds.{run_on}
 use Rattle.cg_agree_lemmas.specs.SameAttempt.{SameAttempt, same-installation}
 use Rattle.cg_agree_lemmas.specs.Reach.{acts-front}
 use Rattle.cg_agree_lemmas.specs.ReachSteps.{goes_on-kept}

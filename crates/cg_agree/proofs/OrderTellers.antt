@@ -1,7 +1,7 @@
 -- What was told counts no more greens than stand in the printed order, behind each event: only a merge lets replicas tell something, and
 -- nothing becomes green in it.
-use Rattle.cg_replica_step.specs.Step.{Input, Deliveries, replica_step}
-use Rattle.cg_commit.specs.Crash.{Disk, EventEnd, Runs, Crashes as EndsInCrash, end_event}
+use Rattle.cg_model.specs.ReplicaStep.{Input, Deliveries, replica_step}
+use Rattle.cg_disk_records.specs.Crash.{Disk, EventEnd, Runs, Crashes as EndsInCrash, end_event}
 use Rattle.cg_action.specs.declared.action.Kind.TheVariants.{Update, Join as JoinKind, Leave as LeaveKind}
 use Rattle.cg_schedule.specs.declared.event.Event.{Event}
 use Rattle.cg_schedule.specs.declared.event.Event.TheVariants.{Start, Split, Merge, Request, Weak, Dirty, Order, Recover, Show, ShowOrder, Gather, End, Receive, Deliver, Rounds, Stop, Fail, Join, Leave, Transfer}
@@ -44,7 +44,7 @@ use Rattle.cg_group.specs.Events.{furthest, merge, transitional_places}
 use Rattle.cg_group.specs.State.{delivered_to, home}
 use Rattle.cg_group.specs.declared.delivery.Handed.{Handed}
 use Rattle.cg_queue.specs.Queue.{names_of}
-use Rattle.cg_commit.specs.Commit.{commits}
+use Rattle.cg_disk_records.specs.Commit.{commits}
 use Rattle.cg_wire.specs.declared.message.Msg.{Msg}
 
 -- ---- events in which nothing is told

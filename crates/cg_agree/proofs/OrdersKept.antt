@@ -1,5 +1,5 @@
 -- The printed order is kept by each event: it stays on the newest level's line, and no action stands in it before it was shown as made.
-use Rattle.cg_replica_step.specs.Step.{Input, Deliveries, Asks as AsksOf}
+use Rattle.cg_model.specs.ReplicaStep.{Input, Deliveries, Asks as AsksOf}
 use Rattle.cg_group.specs.Events.{order as order_group, receive, gather, deliveries_at, handed_in_split, deliver, split, merge}
 use Rattle.cg_action.specs.declared.action.Kind.TheVariants.{Update, Join as JoinKind, Leave as LeaveKind}
 use Rattle.cg_schedule.specs.declared.event.Event.{Event}
@@ -68,7 +68,7 @@ use Rattle.cg_group.specs.EachLaws.{Each}
 use Rattle.cg_group.specs.State.{GroupState, delivered_to, home}
 use Rattle.cg_group.specs.declared.delivery.Handed.{Handed}
 use Rattle.cg_queue.specs.Queue.{green_count, names_of}
-use Rattle.cg_commit.specs.Crash.{Disk, FailOnce, StopWith, Strike, at_rest, disk_recovered, new_disk, recovered}
+use Rattle.cg_disk_records.specs.Crash.{Disk, FailOnce, StopWith, Strike, at_rest, disk_recovered, new_disk, recovered}
 use Rattle.cg_wire.specs.declared.message.Msg.{Msg}
 use Rattle.cg_client.specs.Joined.{piece_count}
 

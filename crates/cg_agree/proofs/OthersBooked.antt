@@ -12,7 +12,7 @@ use Rattle.cg_agree.proofs.GroupSays.{GroupSays}
 use Rattle.cg_agree.proofs.MadeBookKept.{made_book-of}
 use Rattle.cg_agree.proofs.MadeOnceKept.{holds-weaker, message-weaker}
 use Rattle.cg_agree.proofs.OthersShown.{later-shown, names-shown}
-use Rattle.cg_commit.specs.RunMarkLaws.{run-names}
+use Rattle.cg_disk_records.specs.RunMarkLaws.{run-names}
 use Rattle.cg_model.specs.FactsBooks.{AreShown, HoldsFine, IsActionShown, IsMessageShown, IsNameShown, LifeShown, LifeToShow, MadeFits, OrderFits, NodeMade, NodeShown, NodeToShow}
 use Rattle.cg_model.specs.Attempts.{held_in}
 use Rattle.cg_model.specs.Chronicle.{Chronicle}
@@ -25,7 +25,7 @@ use Rattle.cg_base.specs.Ids.{names}
 use Rattle.cg_client.specs.Replica.{Held, Replica, created}
 use Rattle.cg_group.specs.State.{unordered_of}
 use Rattle.cg_queue.specs.Queue.{names_of}
-use Rattle.cg_replica_step.specs.Recorded.{OfMessage}
+use Rattle.cg_model.specs.Recorded.{OfMessage}
 
 core-there : (o : Option Node) (r : Replica) → option_and_then (λ s. running s.life) o ≡ Some r → option_map (λ s. held_in s.life) o ≡ Some r.held
 core-there None r e = absurd (let clash : None ≡ Some r = e in cc)

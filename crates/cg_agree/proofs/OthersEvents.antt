@@ -1,5 +1,5 @@
 -- While a replica is down nobody else has an action of it that wasn't shown as made: that is kept by each event behind which it is down.
-use Rattle.cg_replica_step.specs.Step.{Input, Deliveries, Asks as AsksOf, replica_step}
+use Rattle.cg_model.specs.ReplicaStep.{Input, Deliveries, Asks as AsksOf, replica_step}
 use Rattle.cg_action.specs.declared.action.Kind.TheVariants.{Update, Join as JoinKind, Leave as LeaveKind}
 use Rattle.cg_schedule.specs.declared.event.Event.{Event}
 use Rattle.cg_schedule.specs.declared.event.Event.TheVariants.{Start, Split, Merge, Request, Weak, Dirty, Order, Recover, Show, ShowOrder, Gather, End, Receive, Deliver, Rounds, Stop, Fail, Join, Leave, Transfer}
@@ -15,7 +15,7 @@ use Rattle.std.specs.Option.{option_map_or}
 use Rattle.std.specs.Prelude.{◌==◌}
 use Rattle.cg_agree_lemmas.specs.BookedRows.{own-fine}
 use Rattle.cg_agree_lemmas.specs.ChronicleFacts.{node_of-set}
-use Rattle.cg_commit.specs.Holds.{Rising}
+use Rattle.cg_disk_records.specs.Holds.{Rising}
 use Rattle.cg_agree.proofs.GroupSays.{GroupSays, says-down, says-gather, says-handed, says-merge, says-order, says-receive, says-split, says-up}
 use Rattle.cg_agree_lemmas.specs.HeldCommit.{recovered-id}
 use Rattle.cg_agree.proofs.MadeBookKept.{sound-at, transfer-unbegun}
@@ -43,9 +43,9 @@ use Rattle.cg_group.specs.EachLaws.{Each, Each-append}
 use Rattle.cg_group.specs.State.{GroupState, configuration, delivered_to, home, phase_of, regular_in}
 use Rattle.cg_group.specs.declared.delivery.Handed.{Handed}
 use Rattle.cg_queue.specs.Queue.{green_count, names_of}
-use Rattle.cg_commit.specs.Crash.{Crashes, EventEnd, FailOnce, Runs, StopWith, Strike, at_rest, disk_recovered, end_event, new_disk, recovered}
+use Rattle.cg_disk_records.specs.Crash.{Crashes, EventEnd, FailOnce, Runs, StopWith, Strike, at_rest, disk_recovered, end_event, new_disk, recovered}
 use Rattle.cg_wire.specs.declared.message.Msg.{Msg}
-use Rattle.cg_commit.specs.CutRaiseLaws.{behind-rises, rising-behind}
+use Rattle.cg_disk_records.specs.CutRaiseLaws.{behind-rises, rising-behind}
 use Rattle.cg_client.specs.Joined.{piece_count}
 
 -- ---- turns behind which it is down

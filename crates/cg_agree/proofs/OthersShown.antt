@@ -1,5 +1,5 @@
 -- While a replica is down nobody else has an action of it that wasn't shown as made: what the turns of an event make of that.
-use Rattle.cg_replica_step.specs.Step.{Input, Deliveries, Asks, replica_step, after_delivery}
+use Rattle.cg_model.specs.ReplicaStep.{Input, Deliveries, Asks, replica_step, after_delivery}
 use Rattle.cg_model.specs.FactsBooks.{AreShown, HoldsFine, IsActionShown, IsMessageShown, IsNameShown, LifeShown, NodeShown}
 use Rattle.cg_model.specs.Step.{after_event, hand_to, hand, hand_over}
 use Rattle.cg_agree_lemmas.specs.TurnRows.{OfDelivery, of-deliveries}
@@ -30,11 +30,11 @@ use Rattle.cg_client.specs.Whitening.{white_at}
 use Rattle.cg_group.specs.EachLaws.{Each, Each-append}
 use Rattle.cg_group.specs.declared.delivery.Handed.{Handed}
 use Rattle.cg_queue.specs.Queue.{green_count, names_of}
-use Rattle.cg_commit.specs.Crash.{Crashes, Disk, EventEnd, Runs, end_event, whitened}
+use Rattle.cg_disk_records.specs.Crash.{Crashes, Disk, EventEnd, Runs, end_event, whitened}
 use Rattle.cg_disk_records.specs.Stored.{stored_of, whiten}
 use Rattle.cg_wire.specs.declared.message.Msg.{Msg}
 use Rattle.cg_wire.specs.declared.message.Msg.TheVariants.{Action as ActionMsg}
-use Rattle.cg_commit.specs.CutRaiseLaws.{behind-rises, rising-behind}
+use Rattle.cg_disk_records.specs.CutRaiseLaws.{behind-rises, rising-behind}
 
 module _ (p n : ℕ) where
   -- ---- lists of names

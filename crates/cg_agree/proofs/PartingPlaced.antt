@@ -25,7 +25,7 @@ use Rattle.cg_client.specs.Replica.{State, RegPrim, TransPrim, Replica, created,
 use Rattle.cg_client.specs.Requests.{is_creating}
 use Rattle.cg_client.specs.Turn.{Turn, begin, go_to}
 use Rattle.cg_client.specs.Marks.{is_unmade, mark_yellow, mark_red, marked, after_first}
-use Rattle.cg_replica_step.specs.Step.{on_message, after_delivery as take_one, on_transitional}
+use Rattle.cg_model.specs.ReplicaStep.{on_message, after_delivery as take_one, on_transitional}
 use Rattle.cg_model.specs.World.{replica_of}
 use Rattle.cg_model.specs.Chronicle.{Chronicle, Attempt}
 use Rattle.cg_model.specs.Facts.{Invariant}
@@ -46,7 +46,7 @@ use Rattle.cg_agree_lemmas.specs.HeldInstall.{IsAllYellow, yellow-oneself}
 use Rattle.cg_agree_lemmas.specs.HeldMarks.{IsOneself, rising-red, red-oneself}
 use Rattle.cg_agree_lemmas.specs.MessageThere.{message-made}
 use Rattle.cg_agree.proofs.RowYellow.{marks-yellow}
-use Rattle.cg_commit.specs.Holds.{cut_behind}
+use Rattle.cg_disk_records.specs.Holds.{cut_behind}
 use Rattle.cg_agree_lemmas.specs.StatesSaid.{creating-ended, count-quiet, never, announcing, undecided}
 use Rattle.cg_agree_lemmas.specs.TalkEarly.{all-member, not_full, due_parts}
 use Rattle.cg_base.specs.SetLaws.{has-with_member}
@@ -79,7 +79,7 @@ use Rattle.cg_agree_lemmas.specs.TurnKinds.{installs-to}
 use Rattle.cg_agree_lemmas.specs.TurnValues.{even-mark_yellow}
 use Rattle.cg_queue.specs.MarkLaws.{red-placed}
 use Rattle.cg_agree_lemmas.specs.PartingIdle.{taken-append, alone-taken, left-taken}
-use Rattle.cg_commit.specs.RunLaws.{cut_behind-append}
+use Rattle.cg_disk_records.specs.RunLaws.{cut_behind-append}
 
 counted : (from n k : ℕ) → from ≤ k → k < from + n → has (count_up from n) k ≡ true
 counted from zero k le lt = absurd (omega arith)

@@ -25,12 +25,12 @@ use Rattle.cg_model.specs.Chronicle.{Told, Chronicle}
 use Rattle.cg_model.specs.Looks.{members_in, ordered_in}
 use Rattle.cg_model.specs.Talk.{Talk, hears_from, is_full, is_through, state_behind, state_in}
 use Rattle.cg_model.specs.Facts.{Invariant}
-use Rattle.cg_commit.specs.Holds.{run_on, cut_behind, Rising}
+use Rattle.cg_disk_records.specs.Holds.{run_on, cut_behind, Rising}
 use Rattle.cg_model.specs.FactsTalk.{AreTold, handed_talk}
 use Rattle.cg_agree.proofs.AnswersOwn.{due-green, due-red, still, ended-known}
 use Rattle.cg_agree.proofs.ClearedDead.{IsToldIn, each-told}
 use Rattle.cg_agree.proofs.CoreKept.{has_all, done_count, EndFits}
-use Rattle.cg_commit.specs.CutRaiseLaws.{rising-behind}
+use Rattle.cg_disk_records.specs.CutRaiseLaws.{rising-behind}
 use Rattle.cg_agree_lemmas.specs.EndCovers.{OfEach, of_each-weaker}
 use Rattle.cg_agree_lemmas.specs.EndQuorum.{both-each}
 use Rattle.cg_agree.proofs.EndReached.{best-bounds}

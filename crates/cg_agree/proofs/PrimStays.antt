@@ -15,8 +15,8 @@ use Rattle.cg_group.specs.State.{home, delivered_to, unordered_of}
 use Rattle.cg_group.specs.Events.{regulars, order_all, furthest, transitional_places}
 use Rattle.cg_client.specs.Install.{weighted}
 use Rattle.cg_client.specs.Replica.{Replica}
-use Rattle.cg_commit.specs.Crash.{EventEnd, Runs, Crashes as EndsInCrash}
-use Rattle.cg_commit.specs.Commit.{commits}
+use Rattle.cg_disk_records.specs.Crash.{EventEnd, Runs, Crashes as EndsInCrash}
+use Rattle.cg_disk_records.specs.Commit.{commits}
 use Rattle.cg_schedule.specs.declared.event.Event.{Event}
 use Rattle.cg_schedule.specs.declared.event.Event.TheVariants.{Start, Split, Merge, Request, Weak, Dirty, Order, Recover, Show, ShowOrder, Gather, End, Receive, Deliver, Rounds, Stop, Fail, Join, Leave, Transfer}
 use Rattle.cg_model.specs.World.{NodeState, Up, Down, Node, TransferState, World, node_of, replica_of}

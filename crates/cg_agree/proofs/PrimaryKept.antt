@@ -16,7 +16,7 @@ use Rattle.cg_client.specs.Replica.{Held, State, RegPrim, TransPrim, ExchangeSta
 use Rattle.cg_client.specs.Turn.{Turn, begin}
 use Rattle.cg_client.specs.Requests.{settle}
 use Rattle.cg_disk_records.specs.Stored.{stored_of, whiten}
-use Rattle.cg_commit.specs.Crash.{new_disk, at_rest, recovered, disk_recovered}
+use Rattle.cg_disk_records.specs.Crash.{new_disk, at_rest, recovered, disk_recovered}
 use Rattle.cg_model.specs.World.{NodeState, Up, Down, Node, TransferState, node_of, replica_of, running, has_begun, is_left}
 use Rattle.cg_model.specs.Step.{joiner_replica}
 use Rattle.cg_model.specs.Chronicle.{Past, Attempt, Chronicle}

@@ -33,7 +33,7 @@ use Rattle.cg_agree_lemmas.specs.HeldMarks.{counted}
 use Rattle.cg_agree_lemmas.specs.ReachFacts.{all-from}
 use Rattle.cg_agree.proofs.QuietTalk.{quiet-at, regular-there, handed-all, up-there, told-there, member-of, all-announced, state-there, summaries-are}
 use Rattle.cg_agree.proofs.QuietKnown.{known-in}
-use Rattle.cg_commit.specs.Holds.{cut_behind}
+use Rattle.cg_disk_records.specs.Holds.{cut_behind}
 
 -- ---- who has left, and who remains
 

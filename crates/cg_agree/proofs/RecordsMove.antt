@@ -17,7 +17,7 @@ use Rattle.cg_client.specs.Turn.{Turn, begin}
 use Rattle.cg_client.specs.Install.{prim_after}
 use Rattle.cg_client.specs.Requests.{settle}
 use Rattle.cg_disk_records.specs.Stored.{stored_of, whiten, recovery_turn as recover_disk}
-use Rattle.cg_commit.specs.Crash.{Disk, at_rest, recovered, disk_recovered, new_disk}
+use Rattle.cg_disk_records.specs.Crash.{Disk, at_rest, recovered, disk_recovered, new_disk}
 use Rattle.cg_model.specs.Attempts.{held_in}
 use Rattle.cg_model.specs.World.{NodeState, Up, Down, Node, node_of, replica_of, running, has_begun}
 use Rattle.cg_model.specs.Step.{joiner_replica, without_snapshot}

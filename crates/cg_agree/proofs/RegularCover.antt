@@ -48,12 +48,12 @@ use Rattle.cg_agree.proofs.LevelsOpen.{when-from}
 use Rattle.cg_agree_lemmas.specs.PartsNamed.{actions-names}
 use Rattle.cg_agree_lemmas.specs.PlanEnd.{is_behind, behind-ended}
 use Rattle.cg_agree_lemmas.specs.ReachWorld.{when-is}
-use Rattle.cg_commit.specs.Holds.{run_on, cut_behind}
+use Rattle.cg_disk_records.specs.Holds.{run_on, cut_behind}
 use Rattle.cg_agree_lemmas.specs.TalkEarly.{all-member}
 use Rattle.cg_agree.proofs.ToldCover.{CoversWhere}
 use Rattle.cg_agree.proofs.ToldLine.{Behind, begun-reach, told-begun, told-fits, told-greens, told-run}
 use Rattle.cg_agree_lemmas.specs.YellowMeets.{reds-named}
-use Rattle.cg_commit.specs.RunLaws.{run_on-append}
+use Rattle.cg_disk_records.specs.RunLaws.{run_on-append}
 use Rattle.cg_agree_lemmas.specs.RunFronts.{run_on-front}
 
 -- ---- names above a cut

@@ -33,9 +33,9 @@ use Rattle.cg_model.specs.Played.{IsSame, StandsBeside, with_world}
 use Rattle.cg_model.specs.Noting.{chronicle_step}
 use Rattle.cg_model.specs.Step.{world_step}
 use Rattle.cg_agree_lemmas.specs.FrontFacts.{split_by_Front}
-use Rattle.cg_commit.specs.Holds.{run_on, cut_behind}
-use Rattle.cg_commit.specs.RunLaws.{cut_behind-append, run_on-append}
-use Rattle.cg_commit.specs.CutRaiseLaws.{rising-behind, rising-raise, index-same, behind-rises}
+use Rattle.cg_disk_records.specs.Holds.{run_on, cut_behind}
+use Rattle.cg_disk_records.specs.RunLaws.{cut_behind-append, run_on-append}
+use Rattle.cg_disk_records.specs.CutRaiseLaws.{rising-behind, rising-raise, index-same, behind-rises}
 use Rattle.cg_agree_lemmas.specs.HeldMarks.{IsOneself, rising-red}
 use Rattle.cg_agree_lemmas.specs.HandSays.{find-holds}
 use Rattle.cg_agree.proofs.DeadKept.{said-attempt}
@@ -43,7 +43,7 @@ use Rattle.cg_agree.proofs.MadeOfSmalls.{made-of-smalls}
 use Rattle.cg_agree_lemmas.specs.AttemptNew.{HasNoRecordYet}
 use Rattle.cg_agree_lemmas.specs.LivesRest.{node-in, node-agrees, node-empty}
 use Rattle.cg_agree_lemmas.specs.RestsBehind.{LifeSteps, NodeSteps, RestsAt, event-rests}
-use Rattle.cg_commit.specs.RunMarkLaws.{run-head}
+use Rattle.cg_disk_records.specs.RunMarkLaws.{run-head}
 
 -- ---- records
 

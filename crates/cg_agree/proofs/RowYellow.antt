@@ -23,7 +23,7 @@ use Rattle.cg_client.specs.Replica.{State, RegPrim, TransPrim, Replica, created}
 use Rattle.cg_client.specs.Requests.{is_creating}
 use Rattle.cg_client.specs.Turn.{Turn, begin, go_to}
 use Rattle.cg_client.specs.Marks.{is_unmade, marked, mark_yellow}
-use Rattle.cg_replica_step.specs.Step.{on_message, on_transitional, after_delivery as take_one}
+use Rattle.cg_model.specs.ReplicaStep.{on_message, on_transitional, after_delivery as take_one}
 use Rattle.cg_model.specs.World.{replica_of}
 use Rattle.cg_model.specs.Chronicle.{Chronicle}
 use Rattle.cg_model.specs.Fronts.{Front}
@@ -45,10 +45,10 @@ use Rattle.cg_agree_lemmas.specs.HeldMarks.{IsOneself, rising-red}
 use Rattle.cg_agree.proofs.LeaverOutside.{act_at, acts_at}
 use Rattle.cg_agree.proofs.LeaverStep.{RowIsYellow}
 use Rattle.cg_agree_lemmas.specs.MessageThere.{message-made}
-use Rattle.cg_commit.specs.Holds.{cut_behind}
+use Rattle.cg_disk_records.specs.Holds.{cut_behind}
 use Rattle.cg_agree_lemmas.specs.StatesSaid.{creating-ended, count-quiet}
 use Rattle.cg_agree_lemmas.specs.YellowGrows.{places-keep}
-use Rattle.cg_commit.specs.RunLaws.{cut_behind-append}
+use Rattle.cg_disk_records.specs.RunLaws.{cut_behind-append}
 
 -- ---- places one behind the other
 

@@ -27,7 +27,7 @@ use Rattle.cg_model.specs.FactsExchange.{IsRecord, HasRecord, IsSummary, KnowsLe
 use Rattle.cg_model.specs.Facts.{Invariant}
 use Rattle.cg_model.specs.Small.{Small, Starts, Makes, Enters, Orders, Receives, Hands, Leaves, Asks, Settles, Commits, Crashes, Recovers, Copies, Joins, small_step, coming, newest_conf}
 use Rattle.cg_model.specs.Smalls.{may_make, is_set}
-use Rattle.cg_commit.specs.CutRaiseLaws.{behind-rises}
+use Rattle.cg_disk_records.specs.CutRaiseLaws.{behind-rises}
 use Rattle.cg_agree_lemmas.specs.HeldMarks.{IsOneself, rising-green}
 use Rattle.cg_agree_lemmas.specs.ChronicleFacts.{node_of-set}
 use Rattle.cg_agree_lemmas.specs.CoresKept.{greens-turn}

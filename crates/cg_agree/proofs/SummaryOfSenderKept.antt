@@ -13,7 +13,7 @@ use Rattle.cg_group.specs.declared.delivery.Delivery.TheVariants.{Transitional a
 use Rattle.cg_client.specs.Replica.{Held, State, ExchangeStates, Replica, last_index, created}
 use Rattle.cg_client.specs.Requests.{settle}
 use Rattle.cg_client.specs.Summary.{summary_of}
-use Rattle.cg_commit.specs.Crash.{new_disk, recovered, disk_recovered}
+use Rattle.cg_disk_records.specs.Crash.{new_disk, recovered, disk_recovered}
 use Rattle.cg_model.specs.World.{NodeState, Up, Down, Node, running, node_of, replica_of, has_begun}
 use Rattle.cg_model.specs.Attempts.{held_in}
 use Rattle.cg_model.specs.Step.{joiner_replica, without_snapshot}

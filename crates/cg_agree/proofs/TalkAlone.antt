@@ -12,7 +12,7 @@ use Rattle.cg_group.specs.Events.{come_up, go_down}
 use Rattle.cg_group.specs.LookupLaws.{standing_of-set, standing_of-down, eqb_comm, at-cond}
 use Rattle.cg_client.specs.Replica.{NonPrim, Replica, fresh}
 use Rattle.cg_client.specs.Turn.{begin}
-use Rattle.cg_commit.specs.Crash.{Disk, new_disk, at_rest, recovered, disk_recovered}
+use Rattle.cg_disk_records.specs.Crash.{Disk, new_disk, at_rest, recovered, disk_recovered}
 use Rattle.cg_disk_records.specs.Stored.{recovery_turn}
 use Rattle.cg_model.specs.World.{NodeState, Up, Down as DownLife, Node, TransferState, World, running, node_of, has_begun, replica_of, set_life}
 use Rattle.cg_model.specs.Step.{begin_replica, joiner_replica}

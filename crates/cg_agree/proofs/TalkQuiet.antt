@@ -11,7 +11,7 @@ use Rattle.cg_group.specs.Events.{send, send_from, send_all}
 use Rattle.cg_group.specs.LookupLaws.{unordered_of-set}
 use Rattle.cg_client.specs.Replica.{Held, Replica}
 use Rattle.cg_client.specs.Turn.{Turn, begin}
-use Rattle.cg_commit.specs.Crash.{Disk}
+use Rattle.cg_disk_records.specs.Crash.{Disk}
 use Rattle.cg_disk_records.specs.Stored.{stored_of, whiten}
 use Rattle.cg_model.specs.World.{NodeState, Up, Down as DownLife, Node, node_of, replica_of, running, set_life}
 use Rattle.cg_model.specs.Chronicle.{Chronicle}

@@ -13,7 +13,7 @@ use Rattle.cg_group.specs.Events.{with_message, with_receipt}
 use Rattle.cg_group.specs.GrownLaws.{ordered-message, ordered-receipt}
 use Rattle.cg_client.specs.Replica.{Replica}
 use Rattle.cg_client.specs.Turn.{begin}
-use Rattle.cg_commit.specs.Crash.{Disk}
+use Rattle.cg_disk_records.specs.Crash.{Disk}
 use Rattle.cg_model.specs.World.{Up, Node, running, node_of, has_begun}
 use Rattle.cg_model.specs.Chronicle.{Told, Chronicle}
 use Rattle.cg_model.specs.Looks.{greens_of, told_in, conf_of, ordered_in}

@@ -34,7 +34,7 @@ use Rattle.cg_agree_lemmas.specs.Knowledge.{sender-told}
 use Rattle.cg_agree_lemmas.specs.KnownBounds.{least-greens, least-reds}
 use Rattle.cg_agree_lemmas.specs.PlanEnd.{told-each, own-told}
 use Rattle.cg_agree_lemmas.specs.PlanProgress.{AreBeside}
-use Rattle.cg_commit.specs.Holds.{run_on}
+use Rattle.cg_disk_records.specs.Holds.{run_on}
 use Rattle.cg_agree_lemmas.specs.RunFronts.{run_on-front}
 
 -- what holds of each core holds of all greens of who has begun

@@ -26,7 +26,7 @@ use Rattle.cg_agree_lemmas.specs.FrontFacts.{Front-trans, Front-of_both, Front-m
 use Rattle.cg_agree_lemmas.specs.HandSays.{find-holds}
 use Rattle.cg_agree.proofs.NetFactsKept.{net-kept}
 use Rattle.cg_agree.proofs.OneLine.{reached-front}
-use Rattle.cg_commit.specs.Holds.{run_on}
+use Rattle.cg_disk_records.specs.Holds.{run_on}
 use Rattle.cg_agree.proofs.TalkFactsKept.{talk-kept}
 use Rattle.cg_agree.proofs.ToldBeside.{core-now}
 use Rattle.cg_agree_lemmas.specs.RunFronts.{run_on-front}

@@ -45,9 +45,9 @@ use Rattle.cg_disk_records.specs.Change.{spelled_change}
 use Rattle.cg_disk_records.specs.Checkpoint.{spelled_server, spelled_entry, spelled_reached, spelled_kept, spelled_parts, spelled_checkpoint}
 use Rattle.cg_disk_records.specs.Stored.{whiten, recovery_turn}
 use Rattle.cg_disk_records.specs.Following.{after_change}
-use Rattle.cg_commit.specs.Commit.{same_values, commits}
-use Rattle.cg_commit.specs.Crash.{with_change, with_checkpoint, crash_outcome, end_event}
-use Rattle.cg_replica_step.specs.Step.{on_message, on_transitional, on_regular, after_delivery, replica_step}
+use Rattle.cg_disk_records.specs.Commit.{same_values, commits}
+use Rattle.cg_disk_records.specs.Crash.{with_change, with_checkpoint, crash_outcome, end_event}
+use Rattle.cg_model.specs.ReplicaStep.{on_message, on_transitional, on_regular, after_delivery, replica_step}
 use Rattle.cg_model.specs.Admission.{first_refusal}
 use Rattle.cg_model.specs.Show.{ended}
 use Rattle.cg_model.specs.Step.{hand, happens, world_step}

@@ -9,8 +9,8 @@ use Rattle.cg_text.specs.Order.{same_text}
 use Rattle.cg_action.specs.declared.action.Action.{Action}
 use Rattle.cg_action.specs.contracts.action.ActionPartialEq.TheImpl.{ghosts as action}
 use Rattle.cg_action.specs.contracts.action.KindPartialEq.TheImpl.{ghosts as kind}
-use Rattle.cg_answer.specs.declared.entry.DbEntry.{DbEntry}
-use Rattle.cg_answer.specs.contracts.entry.DbEntryPartialEq.TheImpl.{ghosts as entry}
+use Rattle.cg_action.specs.declared.entry.DbEntry.{DbEntry}
+use Rattle.cg_action.specs.contracts.entry.DbEntryPartialEq.TheImpl.{ghosts as entry}
 use Rattle.cg_members.specs.contracts.server.ServerPartialEq.TheImpl.{ghosts as server}
 use Rattle.cg_members.specs.Members.{Members}
 use Rattle.cg_queue.specs.Queue.{QueueView}

@@ -30,7 +30,7 @@ use Rattle.cg_model.specs.FactsExchange.{greens_behind, red_behind, best_told}
 use Rattle.cg_model.specs.Smalls.{implies}
 use Rattle.cg_agree_cases.specs.Same.{same_actions, front_actions, same_numbers}
 use Rattle.cg_agree_cases.specs.Through.{if_some, is_some_with, for_replicas, for_confs, for_both}
-use Rattle.cg_commit.specs.Holds.{run_on, cut_behind}
+use Rattle.cg_disk_records.specs.Holds.{run_on, cut_behind}
 
 abbrev is_record : Attempt → Vulnerable → Bool
 is_record a v = (v.from == a.from) && same_numbers v.set a.set && is_within v.bits a.entered

@@ -24,7 +24,7 @@ use Rattle.cg_model.specs.Levels.{is_record_of}
 use Rattle.cg_model.specs.FactsReplica.{own_record, has_entered, has_installed, is_primary, is_attempting, booked, join_from}
 use Rattle.cg_agree_cases.specs.Same.{same_action, same_actions, front_actions, same_databases, same_members, same_attempt}
 use Rattle.cg_agree_cases.specs.Through.{if_some, is_some_with, for_replicas, for_confs, for_cores}
-use Rattle.cg_commit.specs.Holds.{run_on, cut_behind, ascend}
+use Rattle.cg_disk_records.specs.Holds.{run_on, cut_behind, ascend}
 
 abbrev is_made_of : List Weighted → Held → List Action → Bool
 is_made_of start h greens =

@@ -24,13 +24,13 @@ use Rattle.cg_exchange.specs.ExchangeActions.{take_item, send_part, progress, go
 use Rattle.cg_exchange.specs.ExchangeStates.{is_usable, with_heard, exchange_states_on_summary}
 use Rattle.cg_construct.specs.Construct.{attempt_set, is_announced, construct_with}
 use Rattle.cg_construct.specs.No.{no_with}
-use Rattle.cg_commit.specs.Commit.{same_values}
-use Rattle.cg_replica_step.specs.Step.{Input, Deliveries, Asks, replica_step, on_message, on_transitional, on_regular, after_delivery}
+use Rattle.cg_disk_records.specs.Commit.{same_values}
+use Rattle.cg_model.specs.ReplicaStep.{Input, Deliveries, Asks, replica_step, on_message, on_transitional, on_regular, after_delivery}
 use Rattle.cg_model.specs.Fronts.{IsSomeWith}
 use Rattle.cg_model.specs.Levels.{is_record_of}
 use Rattle.cg_model.specs.FactsReplica.{is_attempting, IsAsOnDisk}
 use Rattle.cg_agree_lemmas.specs.TurnValues.{even-mark_red, even-mark_yellow, even-mark_green, even-send_part, even-create_kept, even-create}
-use Rattle.cg_commit.specs.ValueLaws.{one-value}
+use Rattle.cg_disk_records.specs.ValueLaws.{one-value}
 
 -- the attempt was under way and the reds are the same, or its record is another one
 abbrev pub IsSameOrNew : Replica → Held → Type 0

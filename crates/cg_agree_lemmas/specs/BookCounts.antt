@@ -14,7 +14,7 @@ use Rattle.cg_queue.specs.Queue.{names_of}
 use Rattle.cg_client.specs.Replica.{Held, Replica, NonPrim, created}
 use Rattle.cg_client.specs.Turn.{Turn, begin}
 use Rattle.cg_disk_records.specs.Stored.{stored_of, whiten, recovery_turn}
-use Rattle.cg_commit.specs.Crash.{Disk, at_rest, new_disk, recovered, disk_recovered}
+use Rattle.cg_disk_records.specs.Crash.{Disk, at_rest, new_disk, recovered, disk_recovered}
 use Rattle.cg_model.specs.World.{NodeState, Up, Down, Node, running, node_of, replica_of, has_begun}
 use Rattle.cg_model.specs.Attempts.{held_in}
 use Rattle.cg_model.specs.Step.{joiner_replica, without_snapshot}
@@ -23,7 +23,7 @@ use Rattle.cg_model.specs.Looks.{core_of, disk_held, on_disk, stood_of, copied_f
 use Rattle.cg_model.specs.Small.{start, turning, turning_as, after_turn, commit_as, crash_as, recover_as, join_with}
 use Rattle.cg_model.specs.FactsReplica.{GoesOn, IsAsOnDisk, IsCore}
 use Rattle.cg_model.specs.Played.{IsWritten}
-use Rattle.cg_commit.specs.Holds.{run_on}
+use Rattle.cg_disk_records.specs.Holds.{run_on}
 use Rattle.cg_agree_lemmas.specs.HeldMarks.{IsOneself}
 use Rattle.cg_agree_lemmas.specs.HeldOwn.{created-same}
 use Rattle.cg_agree_lemmas.specs.HeldCommit.{recovered-id}
@@ -31,7 +31,7 @@ use Rattle.cg_agree_lemmas.specs.ChronicleFacts.{node_of-set}
 use Rattle.cg_agree_lemmas.specs.CoresKept.{node-of}
 use Rattle.cg_agree_lemmas.specs.CoresSmall.{start-cores}
 use Rattle.cg_agree_lemmas.specs.BookGrows.{named_in, same-self, IsNamed, cut_of, IsCounted}
-use Rattle.cg_commit.specs.RunMarkLaws.{run-names}
+use Rattle.cg_disk_records.specs.RunMarkLaws.{run-names}
 
 pub record BookCounts (c : Chronicle) : Type 0 where
   pub numbered : run_on [] (names_of c.book) ≡ true

@@ -13,11 +13,11 @@ use Rattle.cg_queue.specs.Queue.{names_of}
 use Rattle.cg_client.specs.Replica.{Held, State, RegPrim, TransPrim, ExchangeStates, ExchangeActions, Construct, No, Un, NonPrim, Left, Replica, last_index, created}
 use Rattle.cg_client.specs.Turn.{Turn, begin, with_held}
 use Rattle.cg_client.specs.Requests.{is_creating, next_action, create, create_kept, empty_buffer, buffer, settle, request_in, request}
-use Rattle.cg_commit.specs.Holds.{run_on, cut_behind, Rising}
-use Rattle.cg_commit.specs.CutRaiseLaws.{index-same, index-other, rising-behind}
-use Rattle.cg_commit.specs.RunLaws.{cut_behind-append, run_on-append, run_on-next}
-use Rattle.cg_commit.specs.RunMarkLaws.{names-new, run-head}
-use Rattle.cg_commit.specs.HeldLaws.{names-behind, are_of, created-behind}
+use Rattle.cg_disk_records.specs.Holds.{run_on, cut_behind, Rising}
+use Rattle.cg_disk_records.specs.CutRaiseLaws.{index-same, index-other, rising-behind}
+use Rattle.cg_disk_records.specs.RunLaws.{cut_behind-append, run_on-append, run_on-next}
+use Rattle.cg_disk_records.specs.RunMarkLaws.{names-new, run-head}
+use Rattle.cg_disk_records.specs.HeldLaws.{names-behind, are_of, created-behind}
 use Rattle.cg_agree_lemmas.specs.DiskAhead.{OwnRuns}
 
 -- the action of a name

@@ -12,7 +12,7 @@ use Rattle.cg_client.specs.Replica.{Held, Replica, NonPrim}
 use Rattle.cg_client.specs.Turn.{begin}
 use Rattle.cg_client.specs.Whitening.{white_at}
 use Rattle.cg_disk_records.specs.Stored.{whiten, recovery_turn}
-use Rattle.cg_replica_step.specs.Recorded.{OfMessage}
+use Rattle.cg_model.specs.Recorded.{OfMessage}
 use Rattle.cg_model.specs.FactsBooks.{HoldsFine}
 use Rattle.cg_model.specs.World.{Node, TransferState, node_of, replica_of, has_begun}
 use Rattle.cg_model.specs.Step.{joiner_replica}

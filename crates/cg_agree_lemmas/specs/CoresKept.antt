@@ -9,7 +9,7 @@ use Rattle.cg_action.specs.declared.action.Action.{Action}
 use Rattle.cg_client.specs.Replica.{Held, Replica}
 use Rattle.cg_client.specs.Turn.{Turn, begin}
 use Rattle.cg_disk_records.specs.Stored.{stored_of, whiten, recovery_turn as recover_disk}
-use Rattle.cg_commit.specs.Crash.{Disk, at_rest, recovered, disk_recovered}
+use Rattle.cg_disk_records.specs.Crash.{Disk, at_rest, recovered, disk_recovered}
 use Rattle.cg_model.specs.World.{NodeState, Up, Down, Node, TransferState, running, node_of, replica_of}
 use Rattle.cg_model.specs.Step.{joiner_replica}
 use Rattle.cg_model.specs.Chronicle.{Past, Copy, Chronicle}

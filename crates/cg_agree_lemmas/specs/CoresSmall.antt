@@ -10,7 +10,7 @@ use Rattle.cg_action.specs.declared.action.Action.{Action}
 use Rattle.cg_members.specs.Servers.{is_server}
 use Rattle.cg_client.specs.Replica.{Held, fresh_held, fresh}
 use Rattle.cg_client.specs.Requests.{settle}
-use Rattle.cg_commit.specs.Crash.{new_disk}
+use Rattle.cg_disk_records.specs.Crash.{new_disk}
 use Rattle.cg_model.specs.World.{NodeState, Up, Node, World, TransferState, running, node_of, replica_of, has_begun}
 use Rattle.cg_model.specs.Step.{begin_replica, joiner_replica, without_snapshot}
 use Rattle.cg_model.specs.Chronicle.{Past, Copy, Chronicle, no_chronicle}

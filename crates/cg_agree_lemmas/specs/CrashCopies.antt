@@ -3,7 +3,7 @@ use Rattle.std.proofs.Common.{◌⊎◌, ◌≡◌, ℕ, ◌≤◌, Bool, false,
 use Rattle.std.specs.Prelude.{◌==◌}
 use Rattle.std.specs.Option.{option_map_or}
 use Rattle.std.proofs.lemmas.Bool.{cases_Bool}
-use Rattle.cg_commit.specs.Crash.{Disk}
+use Rattle.cg_disk_records.specs.Crash.{Disk}
 use Rattle.cg_client.specs.Replica.{Replica}
 use Rattle.cg_model.specs.World.{NodeState, Up, Down, Node, TransferState, node_of}
 use Rattle.cg_model.specs.Chronicle.{Copy, Chronicle}

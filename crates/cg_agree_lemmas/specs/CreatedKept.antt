@@ -18,11 +18,11 @@ use Rattle.cg_client.specs.Replica.{Held, last_index, created}
 use Rattle.cg_client.specs.Turn.{Turn}
 use Rattle.cg_client.specs.Marks.{is_unmade, after_first, marked, with_green, place_green}
 use Rattle.cg_client.specs.Summary.{redden, forget_own, own_to_red}
-use Rattle.cg_commit.specs.Holds.{run_on, cut_behind, Rising}
-use Rattle.cg_commit.specs.CutRaiseLaws.{index-same, index-other, index-rises, rising-raise, rising-behind, behind-rises, raise-below}
-use Rattle.cg_commit.specs.RunMarkLaws.{run-head, run-rest}
+use Rattle.cg_disk_records.specs.Holds.{run_on, cut_behind, Rising}
+use Rattle.cg_disk_records.specs.CutRaiseLaws.{index-same, index-other, index-rises, rising-raise, rising-behind, behind-rises, raise-below}
+use Rattle.cg_disk_records.specs.RunMarkLaws.{run-head, run-rest}
 use Rattle.cg_agree_lemmas.specs.HeldMarks.{IsOneself, rising-green, rising-red}
-use Rattle.cg_commit.specs.HeldLaws.{are_of, are-after, own-after, created-behind}
+use Rattle.cg_disk_records.specs.HeldLaws.{are_of, are-after, own-after, created-behind}
 use Rattle.cg_agree_lemmas.specs.DiskAhead.{OwnRuns, LeftOwn, left-own, made-by}
 use Rattle.cg_agree_lemmas.specs.TurnRows.{IsRule}
 

@@ -21,7 +21,7 @@ use Rattle.cg_group.specs.State.{Sent, GroupState, phase_of, regular_in, deliver
 use Rattle.cg_client.specs.Replica.{ExchangeStates, ExchangeActions, Replica}
 use Rattle.cg_client.specs.Turn.{Turn, begin}
 use Rattle.cg_client.specs.Requests.{is_creating, next_action, create, create_kept, empty_buffer}
-use Rattle.cg_commit.specs.Crash.{Disk}
+use Rattle.cg_disk_records.specs.Crash.{Disk}
 use Rattle.cg_model.specs.World.{Up, Node, node_of, replica_of, running}
 use Rattle.cg_model.specs.Chronicle.{Told, Chronicle}
 use Rattle.cg_model.specs.Looks.{greens_of, is_regular_in, is_regular_at, members_in, ordered_in, sent_by, said_in}

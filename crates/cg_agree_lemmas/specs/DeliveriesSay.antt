@@ -32,7 +32,7 @@ use Rattle.cg_exchange.specs.PlanEnd.{end_plan}
 use Rattle.cg_construct.specs.Construct.{attempt_set, is_announced, construct_with, construct_on_cpc}
 use Rattle.cg_construct.specs.No.{no_with, no_on_cpc}
 use Rattle.cg_construct.specs.Un.{un_on_action}
-use Rattle.cg_replica_step.specs.Step.{on_message, on_transitional, after_delivery}
+use Rattle.cg_model.specs.ReplicaStep.{on_message, on_transitional, after_delivery}
 use Rattle.cg_model.specs.Small.{take_next, take_parting}
 use Rattle.cg_agree_lemmas.specs.HandSays.{part_messages, cpc_at_end, sent-part, sent-end}
 use Rattle.cg_agree_lemmas.specs.HandTalk.{sent-marked, sent-mark_red, sent-mark_green, sent-install, sent-mark_green_at}

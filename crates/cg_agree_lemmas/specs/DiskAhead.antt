@@ -19,14 +19,14 @@ use Rattle.cg_client.specs.Replica.{Held, last_index, created}
 use Rattle.cg_client.specs.Turn.{Turn}
 use Rattle.cg_client.specs.Marks.{is_unmade, after_first, marked, place_green}
 use Rattle.cg_client.specs.Summary.{redden, forget_own, own_to_red}
-use Rattle.cg_commit.specs.Commit.{same_values, commits}
+use Rattle.cg_disk_records.specs.Commit.{same_values, commits}
 use Rattle.cg_model.specs.FactsReplica.{GoesOn}
-use Rattle.cg_commit.specs.Holds.{run_on, Rising}
-use Rattle.cg_commit.specs.HeldLaws.{are_of, are-after, own-after, created-behind}
-use Rattle.cg_commit.specs.ValueLaws.{one-value}
+use Rattle.cg_disk_records.specs.Holds.{run_on, Rising}
+use Rattle.cg_disk_records.specs.HeldLaws.{are_of, are-after, own-after, created-behind}
+use Rattle.cg_disk_records.specs.ValueLaws.{one-value}
 use Rattle.cg_agree_lemmas.specs.TurnRows.{IsRule}
-use Rattle.cg_commit.specs.CutRaiseLaws.{index-other, index-rises, rising-raise}
-use Rattle.cg_commit.specs.RunMarkLaws.{run-head, run-rest}
+use Rattle.cg_disk_records.specs.CutRaiseLaws.{index-other, index-rises, rising-raise}
+use Rattle.cg_disk_records.specs.RunMarkLaws.{run-head, run-rest}
 
 -- nothing became green, nothing was made, and no own action became red before it was delivered
 pub record IsUnnoted (t : Turn) : Type 0 where

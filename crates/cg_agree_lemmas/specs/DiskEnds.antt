@@ -6,9 +6,9 @@ use Rattle.cg_base.specs.declared.action_id.ActionId.{ActionId}
 use Rattle.cg_client.specs.Replica.{Held}
 use Rattle.cg_client.specs.Turn.{Turn}
 use Rattle.cg_disk_records.specs.Stored.{stored_of, whiten}
-use Rattle.cg_commit.specs.Commit.{commits}
+use Rattle.cg_disk_records.specs.Commit.{commits}
 use Rattle.cg_disk_records.specs.Checkpoint.{size_limit}
-use Rattle.cg_commit.specs.Crash.{Strike, Fault, FailOnce, StopWith, Disk, EventEnd, Runs, Crashes, opens, with_change, with_checkpoint, calls_of, checkpointed, whitened, commit_under, struck, end_event, at_rest, crash_outcome, is_committed, is_checkpointed}
+use Rattle.cg_disk_records.specs.Crash.{Strike, Fault, FailOnce, StopWith, Disk, EventEnd, Runs, Crashes, opens, with_change, with_checkpoint, calls_of, checkpointed, whitened, commit_under, struck, end_event, at_rest, crash_outcome, is_committed, is_checkpointed}
 use Rattle.cg_model.specs.Turns.{is_kept}
 
 -- a checkpoint changes nothing of it

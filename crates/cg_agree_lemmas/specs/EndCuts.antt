@@ -10,9 +10,9 @@ use Rattle.cg_knowledge.specs.declared.summary.Summary.{Summary}
 use Rattle.cg_knowledge.specs.Summaries.{lowest, most_updated}
 use Rattle.cg_knowledge.specs.Yellow.{yellow_group, is_green_at_most, common_yellow}
 use Rattle.cg_model.specs.Fronts.{Front}
-use Rattle.cg_commit.specs.Holds.{run_on, cut_behind}
+use Rattle.cg_disk_records.specs.Holds.{run_on, cut_behind}
 use Rattle.cg_agree_lemmas.specs.FrontFacts.{split_by_Front}
-use Rattle.cg_commit.specs.RunLaws.{run_on-append}
+use Rattle.cg_disk_records.specs.RunLaws.{run_on-append}
 use Rattle.cg_agree_lemmas.specs.EndCovers.{OfEach, CoversWith, group-covers}
 
 -- ---- cuts

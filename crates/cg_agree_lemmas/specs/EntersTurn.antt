@@ -11,7 +11,7 @@ use Rattle.cg_client.specs.Marks.{marked}
 use Rattle.cg_client.specs.Summary.{summary_of, redden, forget_own, own_to_red, enter_exchange}
 use Rattle.cg_prim.specs.TransPrim.{end_prim}
 use Rattle.cg_construct.specs.No.{no_record}
-use Rattle.cg_replica_step.specs.Step.{on_regular, after_delivery}
+use Rattle.cg_model.specs.ReplicaStep.{on_regular, after_delivery}
 use Rattle.cg_group.specs.State.{GroupState, configuration}
 use Rattle.cg_model.specs.Small.{newest_conf, take_newest}
 use Rattle.cg_model.specs.Smalls.{is_between}

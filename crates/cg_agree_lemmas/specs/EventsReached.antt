@@ -1,7 +1,7 @@
 -- In each event the turns that stand are reached by its small steps.
 use Rattle.cg_agree_lemmas.specs.MadeSplit.{IsLeaving, parted, parted-id, parted-placed, input as parting, block as parts, members-of as leaving-of, turns-split}
 use Rattle.cg_agree_lemmas.specs.MadeMerge.{IsComing, entered, entered-id, input as coming, block as comes, members-of as coming-of, turns-merge}
-use Rattle.cg_replica_step.specs.Step.{Input, Deliveries, Asks as AsksOf, replica_step}
+use Rattle.cg_model.specs.ReplicaStep.{Input, Deliveries, Asks as AsksOf, replica_step}
 use Rattle.cg_model.specs.Small.{Small, Makes, Enters, Hands, Asks, Settles, make_configuration, take_request}
 use Rattle.cg_action.specs.declared.action.Kind.TheVariants.{Update, Join as JoinKind, Leave as LeaveKind}
 use Rattle.cg_schedule.specs.declared.event.Event.TheVariants.{Split, Merge, Deliver, Request, Join, Leave}
@@ -35,7 +35,7 @@ use Rattle.cg_group.specs.Ready.{ready}
 use Rattle.cg_group.specs.Refusals.{deliver_refusal, not_ready, not_regular, not_up}
 use Rattle.cg_group.specs.State.{delivered_to, home, is_regular}
 use Rattle.cg_group.specs.declared.delivery.Delivery.TheVariants.{Regular as RegularIn}
-use Rattle.cg_commit.specs.Crash.{Disk}
+use Rattle.cg_disk_records.specs.Crash.{Disk}
 
 module _ (w : World) (rising : IsRising 0 (map (λ s. s.id) w.nodes)) (rises : DoRise w.group) where
   pub split-reached : (set : List ℕ) → IsRising 0 set → Each (IsLeaving w set) set →

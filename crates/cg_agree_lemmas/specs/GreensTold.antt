@@ -17,8 +17,8 @@ use Rattle.cg_client.specs.Summary.{redden, forget_own, own_to_red, enter_exchan
 use Rattle.cg_prim.specs.TransPrim.{end_prim}
 use Rattle.cg_construct.specs.No.{no_record}
 use Rattle.cg_group.specs.declared.delivery.Delivery.TheVariants.{Regular as RegularIn}
-use Rattle.cg_replica_step.specs.Step.{Input, Deliveries, Asks, replica_step, after_delivery, on_regular}
-use Rattle.cg_commit.specs.HeldLaws.{names-behind}
+use Rattle.cg_model.specs.ReplicaStep.{Input, Deliveries, Asks, replica_step, after_delivery, on_regular}
+use Rattle.cg_disk_records.specs.HeldLaws.{names-behind}
 use Rattle.cg_agree_lemmas.specs.TurnRows.{IsRule, of-deliveries}
 use Rattle.cg_agree_lemmas.specs.KeptEmpty.{anything}
 

@@ -18,7 +18,7 @@ use Rattle.cg_group.specs.PlaceLaws.{ready-all_received}
 use Rattle.cg_group.specs.GrownLaws.{Grows-message, Grows-receipt}
 use Rattle.cg_client.specs.Replica.{fresh}
 use Rattle.cg_client.specs.Requests.{settle}
-use Rattle.cg_commit.specs.Crash.{new_disk}
+use Rattle.cg_disk_records.specs.Crash.{new_disk}
 use Rattle.cg_model.specs.World.{Up, World, replica_of, has_begun}
 use Rattle.cg_model.specs.Step.{begin_replica}
 use Rattle.cg_model.specs.Chronicle.{Chronicle}

@@ -15,8 +15,8 @@ use Rattle.cg_client.specs.Marks.{is_unmade, after_first, marked, mark_red, can_
 use Rattle.cg_client.specs.Install.{valid_yellow, yellow_green, install}
 use Rattle.cg_model.specs.Talk.{Talk}
 use Rattle.cg_model.specs.FactsTalk.{of_creator, count_behind}
-use Rattle.cg_commit.specs.Holds.{Rising}
-use Rattle.cg_commit.specs.CutRaiseLaws.{index-same, index-other}
+use Rattle.cg_disk_records.specs.Holds.{Rising}
+use Rattle.cg_disk_records.specs.CutRaiseLaws.{index-same, index-other}
 
 -- one more, of that creator
 abbrev pub one_of : Action → ℕ → ℕ

@@ -18,7 +18,7 @@ use Rattle.cg_group.specs.State.{Sent, Standing, GroupState, standing_of, phase_
 use Rattle.cg_client.specs.Replica.{Held, State, RegPrim, Construct, Replica}
 use Rattle.cg_client.specs.Turn.{begin}
 use Rattle.cg_construct.specs.Construct.{attempt_set}
-use Rattle.cg_commit.specs.Crash.{Disk}
+use Rattle.cg_disk_records.specs.Crash.{Disk}
 use Rattle.cg_model.specs.World.{NodeState, Up, Down as DownLife, Node, World, node_of, replica_of, running}
 use Rattle.cg_model.specs.Chronicle.{Attempt, Chronicle}
 use Rattle.cg_model.specs.Looks.{conf_of, members_in, ordered_in, attempt_of, attempt_at}

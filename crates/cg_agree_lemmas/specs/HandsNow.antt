@@ -15,7 +15,7 @@ use Rattle.cg_group.specs.Events.{delivery_at}
 use Rattle.cg_group.specs.State.{Sent, phase_of, is_regular, regular_in, delivered_to, home, configuration}
 use Rattle.cg_client.specs.Replica.{Replica}
 use Rattle.cg_client.specs.Turn.{begin}
-use Rattle.cg_commit.specs.Crash.{Disk}
+use Rattle.cg_disk_records.specs.Crash.{Disk}
 use Rattle.cg_model.specs.World.{Up, Node, node_of, replica_of, running}
 use Rattle.cg_model.specs.Chronicle.{Chronicle}
 use Rattle.cg_model.specs.Looks.{members_in, ordered_in}

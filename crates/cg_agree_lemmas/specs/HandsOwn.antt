@@ -21,7 +21,7 @@ use Rattle.cg_client.specs.Requests.{empty_buffer}
 use Rattle.cg_exchange.specs.ExchangeActions.{send_part, progress, go_on, is_next, mark_item, take_item, exchange_actions_on_item}
 use Rattle.cg_exchange.specs.ExchangeStates.{is_usable, with_heard, exchange_states_on_summary}
 use Rattle.cg_exchange.specs.PlanEnd.{take_over, attempt, decide, end_plan}
-use Rattle.cg_replica_step.specs.Step.{on_message}
+use Rattle.cg_model.specs.ReplicaStep.{on_message}
 
 -- a part of a turn behind which nothing is waited for, where nothing was before it
 abbrev WaitsForNone : (Turn → Turn) → Type 0

@@ -18,8 +18,8 @@ use Rattle.cg_construct.specs.Construct.{attempt_set, is_announced, construct_wi
 use Rattle.cg_construct.specs.No.{no_with, no_on_cpc}
 use Rattle.cg_exchange.specs.ExchangeActions.{go_on, is_next, take_item, exchange_actions_on_item}
 use Rattle.cg_exchange.specs.ExchangeStates.{is_usable, with_heard, exchange_states_on_summary}
-use Rattle.cg_replica_step.specs.Step.{on_message}
-use Rattle.cg_commit.specs.Crash.{Disk}
+use Rattle.cg_model.specs.ReplicaStep.{on_message}
+use Rattle.cg_disk_records.specs.Crash.{Disk}
 use Rattle.cg_model.specs.World.{Node}
 use Rattle.cg_model.specs.Attempts.{held_in}
 use Rattle.cg_model.specs.Fronts.{Front}

@@ -20,8 +20,8 @@ use Rattle.cg_group.specs.declared.delivery.Delivery.TheVariants.{Message}
 use Rattle.cg_group.specs.LookupLaws.{at-cond, eqb_comm}
 use Rattle.cg_client.specs.Turn.{Turn, begin}
 use Rattle.cg_construct.specs.Construct.{attempt_set}
-use Rattle.cg_replica_step.specs.Step.{after_delivery as take_one, on_message}
-use Rattle.cg_commit.specs.Crash.{Disk}
+use Rattle.cg_model.specs.ReplicaStep.{after_delivery as take_one, on_message}
+use Rattle.cg_disk_records.specs.Crash.{Disk}
 use Rattle.cg_model.specs.World.{Up, Node, node_of, replica_of, running}
 use Rattle.cg_model.specs.Chronicle.{Told, Chronicle}
 use Rattle.cg_model.specs.Looks.{told_in, greens_of, is_regular_in, is_regular_at, members_in, ordered_in, sent_by, placed_of, waiting_in, said_in}

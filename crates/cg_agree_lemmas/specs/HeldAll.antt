@@ -15,11 +15,11 @@ use Rattle.cg_queue.specs.Queue.{QueueView, names_of, action_of}
 use Rattle.cg_client.specs.Replica.{Held}
 use Rattle.cg_client.specs.Turn.{Turn}
 use Rattle.cg_client.specs.Install.{actions_named, valid_yellow, yellow_green, reds_green}
-use Rattle.cg_commit.specs.Holds.{run_on, cut_behind, Rising}
-use Rattle.cg_commit.specs.CutRaiseLaws.{index-same, rising-raise, behind-rises}
+use Rattle.cg_disk_records.specs.Holds.{run_on, cut_behind, Rising}
+use Rattle.cg_disk_records.specs.CutRaiseLaws.{index-same, rising-raise, behind-rises}
 use Rattle.cg_agree_lemmas.specs.HeldMarks.{IsOneself, are_within, rising-green}
 use Rattle.cg_agree_lemmas.specs.HeldInstall.{green-run, reds_but}
-use Rattle.cg_commit.specs.RunMarkLaws.{run-head, run-rest, run-names}
+use Rattle.cg_disk_records.specs.RunMarkLaws.{run-head, run-rest, run-names}
 
 -- ---- reds
 

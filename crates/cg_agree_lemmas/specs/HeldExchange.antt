@@ -19,7 +19,7 @@ use Rattle.cg_plan.specs.declared.parts.Part.{Part}
 use Rattle.cg_plan.specs.Plan.{plan_of}
 use Rattle.cg_plan.specs.Progress.{is_done, turn_of}
 use Rattle.cg_exchange.specs.ExchangeActions.{mark_item, take_item, send_part, progress, go_on}
-use Rattle.cg_commit.specs.Holds.{run_on}
+use Rattle.cg_disk_records.specs.Holds.{run_on}
 use Rattle.cg_agree_lemmas.specs.HeldMarks.{IsOneself, are_within}
 use Rattle.cg_agree_lemmas.specs.HeldTurns.{Grows, Keeps, grows-none, grows-both, keeps-none, keeps-choice, keeps-by_replica, keeps-held, keeps-mark_red, keeps-mark_green_at, oneself-with}
 

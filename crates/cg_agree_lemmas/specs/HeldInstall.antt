@@ -14,10 +14,10 @@ use Rattle.cg_queue.specs.MarkLaws.{red-known, red-placed, yellow-added, yellow-
 use Rattle.cg_client.specs.Replica.{Held, created}
 use Rattle.cg_client.specs.Turn.{Turn}
 use Rattle.cg_client.specs.Marks.{is_unmade, marked, mark_yellow, can_be_green, place_green, mark_green, after_first}
-use Rattle.cg_commit.specs.Holds.{run_on, cut_behind, Rising}
-use Rattle.cg_commit.specs.RunLaws.{run_on-next, cut_behind-append}
-use Rattle.cg_commit.specs.CutRaiseLaws.{index-same, index-rises, behind-rises, raise-below}
-use Rattle.cg_commit.specs.RunMarkLaws.{run-head, run-rest, run-names, names-new}
+use Rattle.cg_disk_records.specs.Holds.{run_on, cut_behind, Rising}
+use Rattle.cg_disk_records.specs.RunLaws.{run_on-next, cut_behind-append}
+use Rattle.cg_disk_records.specs.CutRaiseLaws.{index-same, index-rises, behind-rises, raise-below}
+use Rattle.cg_disk_records.specs.RunMarkLaws.{run-head, run-rest, run-names, names-new}
 use Rattle.cg_agree_lemmas.specs.HeldMarks.{IsOneself, are_within, within-rises, rising-green, rising-red, red-oneself, green-oneself}
 use Rattle.cg_agree_lemmas.specs.HeldTurns.{Grows, grows-none, oneself-with}
 

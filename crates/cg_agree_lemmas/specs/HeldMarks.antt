@@ -16,11 +16,11 @@ use Rattle.cg_queue.specs.Queue.{names_of, green_count, placed_red}
 use Rattle.cg_client.specs.Replica.{Held}
 use Rattle.cg_client.specs.Marks.{after_first, with_green}
 use Rattle.cg_model.specs.FactsReplica.{IsMadeOf, IsContiguous, IsYellowClosed}
-use Rattle.cg_commit.specs.Holds.{run_on, cut_behind, ascend, Rising}
-use Rattle.cg_commit.specs.RunLaws.{run_on-next, cut_behind-append}
-use Rattle.cg_commit.specs.CutRaiseLaws.{rising-behind, behind-rises, index-rises}
-use Rattle.cg_commit.specs.RunMarkLaws.{without, taken-out, run-inserted, behind-inserted, ascend-inserted, ascend-filter, names-new}
-use Rattle.cg_commit.specs.HeldLaws.{names-with_red, names-without, names-behind, are-after, own-after}
+use Rattle.cg_disk_records.specs.Holds.{run_on, cut_behind, ascend, Rising}
+use Rattle.cg_disk_records.specs.RunLaws.{run_on-next, cut_behind-append}
+use Rattle.cg_disk_records.specs.CutRaiseLaws.{rising-behind, behind-rises, index-rises}
+use Rattle.cg_disk_records.specs.RunMarkLaws.{without, taken-out, run-inserted, behind-inserted, ascend-inserted, ascend-filter, names-new}
+use Rattle.cg_disk_records.specs.HeldLaws.{names-with_red, names-without, names-behind, are-after, own-after}
 
 -- the facts of one replica by itself
 pub record IsOneself (start : List Weighted) (h : Held) (all : List Action) : Type 0 where

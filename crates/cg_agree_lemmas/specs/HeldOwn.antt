@@ -10,10 +10,10 @@ use Rattle.cg_client.specs.Replica.{Held, created, last_index}
 use Rattle.cg_client.specs.Turn.{Turn}
 use Rattle.cg_client.specs.Marks.{marked, after_first}
 use Rattle.cg_client.specs.Summary.{redden, forget_own, own_to_red}
-use Rattle.cg_commit.specs.Holds.{run_on, cut_behind}
-use Rattle.cg_commit.specs.RunMarkLaws.{run-head, run-rest}
+use Rattle.cg_disk_records.specs.Holds.{run_on, cut_behind}
+use Rattle.cg_disk_records.specs.RunMarkLaws.{run-head, run-rest}
 use Rattle.cg_agree_lemmas.specs.HeldMarks.{IsOneself, rising-red}
-use Rattle.cg_commit.specs.HeldLaws.{created-behind}
+use Rattle.cg_disk_records.specs.HeldLaws.{created-behind}
 
 pub record AllRed (old new : Held) (list : List Action) : Type 0 where
   pub id : new.id ≡ old.id

@@ -18,10 +18,10 @@ use Rattle.cg_client.specs.Marks.{is_unmade, marked, mark_red, can_be_green, pla
 use Rattle.cg_client.specs.Requests.{next_action, create, create_kept, empty_buffer, settle, is_creating}
 use Rattle.cg_client.specs.Summary.{redden, forget_own, own_to_red, tell, enter_exchange}
 use Rattle.cg_client.specs.Install.{valid_yellow, yellow_green, reds_green, prim_after, install}
-use Rattle.cg_commit.specs.Holds.{run_on}
-use Rattle.cg_commit.specs.RunLaws.{run_on-next}
+use Rattle.cg_disk_records.specs.Holds.{run_on}
+use Rattle.cg_disk_records.specs.RunLaws.{run_on-next}
 use Rattle.cg_agree_lemmas.specs.HeldMarks.{IsOneself, are_within, rising-red, red-oneself, green-oneself}
-use Rattle.cg_commit.specs.HeldLaws.{are_of, names-behind, created-behind}
+use Rattle.cg_disk_records.specs.HeldLaws.{are_of, names-behind, created-behind}
 
 -- what was held became what is held: the greens grew, and one replica's facts hold of all of them
 pub record Grows (start : List Weighted) (old new : Held) (all : List Action) : Type 0 where

@@ -24,7 +24,7 @@ use Rattle.cg_client.specs.Marks.{is_unmade, marked, mark_yellow}
 use Rattle.cg_client.specs.Install.{install}
 use Rattle.cg_construct.specs.Construct.{attempt_set, is_announced, construct_with}
 use Rattle.cg_construct.specs.No.{no_with}
-use Rattle.cg_replica_step.specs.Step.{on_message, on_transitional, after_delivery}
+use Rattle.cg_model.specs.ReplicaStep.{on_message, on_transitional, after_delivery}
 use Rattle.cg_model.specs.FactsReplica.{is_primary}
 use Rattle.cg_model.specs.Small.{newly_green, take_all, take_parting}
 use Rattle.cg_agree_lemmas.specs.HeldMarks.{IsOneself}

@@ -12,7 +12,7 @@ use Rattle.cg_plan.specs.Items.{items_of_plan}
 use Rattle.cg_plan.specs.Plan.{least_reds, creators, plan_of}
 use Rattle.cg_client.specs.Replica.{Held}
 use Rattle.cg_model.specs.Chronicle.{Told}
-use Rattle.cg_commit.specs.Holds.{cut_behind}
+use Rattle.cg_disk_records.specs.Holds.{cut_behind}
 use Rattle.cg_model.specs.Talk.{known_up_to}
 use Rattle.cg_agree_lemmas.specs.KnownBounds.{known-most, most-known, unknown-creator}
 use Rattle.cg_agree_lemmas.specs.PlanItems.{plan-within, plan-reaches, plan-greens}

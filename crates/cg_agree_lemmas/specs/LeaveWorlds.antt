@@ -15,7 +15,7 @@ use Rattle.cg_group.specs.Refusals.{sender_at}
 use Rattle.cg_group.specs.EachLaws.{Each, Each-above, Each-weaker}
 use Rattle.cg_client.specs.Turn.{Turn, begin}
 use Rattle.cg_client.specs.Requests.{settle}
-use Rattle.cg_commit.specs.Crash.{Disk}
+use Rattle.cg_disk_records.specs.Crash.{Disk}
 use Rattle.cg_model.specs.World.{World}
 use Rattle.cg_model.specs.Small.{Leaves, Settles, take_all, take_parting, become_past}
 use Rattle.cg_model.specs.Smalls.{implies, ascend_within, hold_received, hold_earlier}

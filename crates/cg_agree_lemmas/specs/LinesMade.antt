@@ -23,12 +23,12 @@ use Rattle.cg_client.specs.Replica.{Held}
 use Rattle.cg_model.specs.FactsExchange.{AreReached}
 use Rattle.cg_model.specs.FactsReplica.{AreBelow, join_from, IsLined}
 use Rattle.cg_agree_lemmas.specs.FrontFacts.{Front-of_both}
-use Rattle.cg_commit.specs.Holds.{run_on}
+use Rattle.cg_disk_records.specs.Holds.{run_on}
 use Rattle.cg_agree_lemmas.specs.LinesTold.{JoinsBelow, greens-below, first-lines}
 use Rattle.cg_agree_lemmas.specs.LinesGreens.{join-within, join-front, ever-joined, line-first}
 use Rattle.cg_agree_lemmas.specs.BookGrows.{named_in, IsNamed, cut_of}
 use Rattle.cg_agree_lemmas.specs.BookCounts.{found-name}
-use Rattle.cg_commit.specs.RunMarkLaws.{run-names}
+use Rattle.cg_disk_records.specs.RunMarkLaws.{run-names}
 
 -- ---- what holds of the book holds of each of its actions
 

@@ -27,10 +27,10 @@ use Rattle.cg_agree_lemmas.specs.EndCuts.{run-above}
 use Rattle.cg_agree_lemmas.specs.ExchangeStill.{OneMoves}
 use Rattle.cg_agree_lemmas.specs.HeldMarks.{IsOneself}
 use Rattle.cg_agree_lemmas.specs.NamesAscend.{same-parts}
-use Rattle.cg_commit.specs.Holds.{cut_behind}
+use Rattle.cg_disk_records.specs.Holds.{cut_behind}
 use Rattle.cg_agree_lemmas.specs.SameAttempt.{KeepsAttempts}
 use Rattle.cg_agree_lemmas.specs.TurnKinds.{IsQuiet}
-use Rattle.cg_commit.specs.RunMarkLaws.{run-names}
+use Rattle.cg_disk_records.specs.RunMarkLaws.{run-names}
 
 -- what a member holds of its attempt
 abbrev pub ListAt : Chronicle → ℕ → Type 0

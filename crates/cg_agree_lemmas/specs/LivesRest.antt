@@ -13,13 +13,13 @@ use Rattle.cg_client.specs.Turn.{Turn, begin}
 use Rattle.cg_client.specs.Marks.{marked}
 use Rattle.cg_client.specs.Summary.{redden, forget_own, own_to_red}
 use Rattle.cg_disk_records.specs.Stored.{stored_of, whiten, recovery_turn}
-use Rattle.cg_commit.specs.Commit.{commits}
-use Rattle.cg_replica_step.specs.Step.{Input, replica_step}
-use Rattle.cg_commit.specs.Crash.{Disk, whitened, end_event, recovered}
+use Rattle.cg_disk_records.specs.Commit.{commits}
+use Rattle.cg_model.specs.ReplicaStep.{Input, replica_step}
+use Rattle.cg_disk_records.specs.Crash.{Disk, whitened, end_event, recovered}
 use Rattle.cg_model.specs.World.{NodeState, Up, Down, Node, running}
 use Rattle.cg_model.specs.Looks.{on_disk}
 use Rattle.cg_model.specs.FactsReplica.{GoesOn, IsAsOnDisk, IsEmptyIn}
-use Rattle.cg_commit.specs.CutRaiseLaws.{behind-rises}
+use Rattle.cg_disk_records.specs.CutRaiseLaws.{behind-rises}
 use Rattle.cg_agree_lemmas.specs.HeldMarks.{IsOneself, rising-red}
 use Rattle.cg_agree_lemmas.specs.HeldOwn.{own-reddened, created-same}
 use Rattle.cg_agree_lemmas.specs.DiskEnds.{end-cases}

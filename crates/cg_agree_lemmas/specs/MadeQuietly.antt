@@ -11,7 +11,7 @@ use Rattle.cg_action.specs.declared.query.Query.{Query}
 use Rattle.cg_group.specs.declared.reason.Reason.{Reason}
 use Rattle.cg_group.specs.Events.{order, receive}
 use Rattle.cg_group.specs.Refusals.{order_refusal, receive_refusal}
-use Rattle.cg_commit.specs.Crash.{Strike, FailOnce, StopWith}
+use Rattle.cg_disk_records.specs.Crash.{Strike, FailOnce, StopWith}
 use Rattle.cg_schedule.specs.declared.event.Event.{Event}
 use Rattle.cg_schedule.specs.declared.event.Event.TheVariants.{Start, Weak, Dirty, Order, Show, ShowOrder, Receive, Fail, Stop}
 use Rattle.cg_model.specs.World.{NodeState, Up, Down, Node, TransferState, World, no_world, node_of, replica_of, running}

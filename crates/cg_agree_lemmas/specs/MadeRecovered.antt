@@ -11,11 +11,11 @@ use Rattle.cg_client.specs.Replica.{NonPrim, last_index, created}
 use Rattle.cg_client.specs.Turn.{begin}
 use Rattle.cg_client.specs.Summary.{own_to_red}
 use Rattle.cg_disk_records.specs.Stored.{recovery_turn}
-use Rattle.cg_commit.specs.Crash.{Disk, recovered}
-use Rattle.cg_commit.specs.Holds.{run_on, cut_behind, Rising}
+use Rattle.cg_disk_records.specs.Crash.{Disk, recovered}
+use Rattle.cg_disk_records.specs.Holds.{run_on, cut_behind, Rising}
 use Rattle.cg_model.specs.Show.{unshown}
-use Rattle.cg_commit.specs.CutRaiseLaws.{index-same, index-other, rising-raise}
-use Rattle.cg_commit.specs.RunMarkLaws.{run-head, run-rest, run-from}
+use Rattle.cg_disk_records.specs.CutRaiseLaws.{index-same, index-other, rising-raise}
+use Rattle.cg_disk_records.specs.RunMarkLaws.{run-head, run-rest, run-from}
 use Rattle.cg_agree_lemmas.specs.HeldMarks.{IsOneself, rising-green}
 use Rattle.cg_agree_lemmas.specs.HeldOwn.{own-reddened, created-same}
 use Rattle.cg_agree_lemmas.specs.HeldTurns.{keeps-own_to_red}

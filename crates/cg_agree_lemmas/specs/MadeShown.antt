@@ -15,16 +15,16 @@ use Rattle.cg_report.specs.declared.entry.Made.{Made}
 use Rattle.cg_client.specs.Replica.{Held, Replica, created}
 use Rattle.cg_client.specs.Turn.{Turn}
 use Rattle.cg_disk_records.specs.Stored.{stored_of, whiten}
-use Rattle.cg_replica_step.specs.Step.{Input, replica_step}
-use Rattle.cg_commit.specs.Crash.{Disk, Runs, Crashes, whitened, end_event, recovered, disk_recovered}
+use Rattle.cg_model.specs.ReplicaStep.{Input, replica_step}
+use Rattle.cg_disk_records.specs.Crash.{Disk, Runs, Crashes, whitened, end_event, recovered, disk_recovered}
 use Rattle.cg_model.specs.FactsBooks.{LifeMade}
 use Rattle.cg_model.specs.World.{NodeState, Up, Down, Node, World, running, node_of}
 use Rattle.cg_model.specs.Looks.{on_disk}
 use Rattle.cg_model.specs.Show.{StepInProgress, beyond, unshown}
 use Rattle.cg_model.specs.Step.{after_event, recover_from}
 use Rattle.cg_model.specs.Making.{made_of_action}
-use Rattle.cg_commit.specs.Holds.{run_on, cut_behind, Rising}
-use Rattle.cg_commit.specs.RunLaws.{cut_behind-append, run_on-append}
+use Rattle.cg_disk_records.specs.Holds.{run_on, cut_behind, Rising}
+use Rattle.cg_disk_records.specs.RunLaws.{cut_behind-append, run_on-append}
 use Rattle.cg_agree_lemmas.specs.ChronicleFacts.{node_of-set}
 use Rattle.cg_agree_lemmas.specs.HeldMarks.{rising-red}
 use Rattle.cg_agree_lemmas.specs.DiskAhead.{OwnRuns}

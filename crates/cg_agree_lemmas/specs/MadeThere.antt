@@ -13,10 +13,10 @@ use Rattle.cg_client.specs.Replica.{Held, created}
 use Rattle.cg_client.specs.Queries.{plain_reds}
 use Rattle.cg_model.specs.Chronicle.{Chronicle}
 use Rattle.cg_model.specs.FactsReplica.{IsCore}
-use Rattle.cg_commit.specs.Holds.{run_on, cut_behind, Rising}
-use Rattle.cg_commit.specs.HeldLaws.{created-behind}
-use Rattle.cg_commit.specs.CutRaiseLaws.{rising-behind}
-use Rattle.cg_commit.specs.RunMarkLaws.{run-names}
+use Rattle.cg_disk_records.specs.Holds.{run_on, cut_behind, Rising}
+use Rattle.cg_disk_records.specs.HeldLaws.{created-behind}
+use Rattle.cg_disk_records.specs.CutRaiseLaws.{rising-behind}
+use Rattle.cg_disk_records.specs.RunMarkLaws.{run-names}
 
 -- ---- names and elements
 

@@ -7,7 +7,7 @@ use Rattle.cg_members.specs.Servers.{is_server}
 use Rattle.cg_group.specs.declared.reason.Reason.TheVariants.{JoinNotGreen}
 use Rattle.cg_group.specs.LookupLaws.{at-cond}
 use Rattle.cg_client.specs.Replica.{Replica}
-use Rattle.cg_commit.specs.Crash.{new_disk}
+use Rattle.cg_disk_records.specs.Crash.{new_disk}
 use Rattle.cg_schedule.specs.declared.event.Event.TheVariants.{Transfer}
 use Rattle.cg_model.specs.World.{Node, TransferState, World, has_begun, node_of, replica_of, bring_up}
 use Rattle.cg_model.specs.Admission.{first_refusal, takes_part, never_named, joiner_left, not_green}

@@ -13,8 +13,8 @@ use Rattle.cg_group.specs.declared.delivery.Handed.{Handed}
 use Rattle.cg_client.specs.Replica.{Held, Replica, created, fresh}
 use Rattle.cg_client.specs.Turn.{Turn}
 use Rattle.cg_disk_records.specs.Stored.{stored_of, whiten}
-use Rattle.cg_replica_step.specs.Step.{Input, Deliveries, replica_step}
-use Rattle.cg_commit.specs.Crash.{Disk, Strike, Runs, Crashes, whitened, end_event, at_rest, new_disk, recovered, disk_recovered}
+use Rattle.cg_model.specs.ReplicaStep.{Input, Deliveries, replica_step}
+use Rattle.cg_disk_records.specs.Crash.{Disk, Strike, Runs, Crashes, whitened, end_event, at_rest, new_disk, recovered, disk_recovered}
 use Rattle.cg_model.specs.FactsBooks.{LifeMade, MadeFits, NodeMade}
 use Rattle.cg_model.specs.World.{NodeState, Up, Down, Node, World, node_of, bring_up}
 use Rattle.cg_model.specs.Show.{StepInProgress, unshown}
@@ -22,14 +22,14 @@ use Rattle.cg_model.specs.Step.{after_event, hand_to, hand, hand_over, begin_rep
 use Rattle.cg_model.specs.FactsLists.{IsRising}
 use Rattle.cg_model.specs.FactsReplica.{GoesOn}
 use Rattle.cg_agree_lemmas.specs.ChronicleFacts.{node_of-set}
-use Rattle.cg_commit.specs.Holds.{cut_behind, Rising}
+use Rattle.cg_disk_records.specs.Holds.{cut_behind, Rising}
 use Rattle.cg_agree_lemmas.specs.HeldMarks.{IsOneself}
 use Rattle.cg_agree_lemmas.specs.DiskEnds.{end-cases}
 use Rattle.cg_agree_lemmas.specs.CreatedKept.{created-first}
 use Rattle.cg_agree_lemmas.specs.WorldTurns.{hand-behind}
 use Rattle.cg_agree_lemmas.specs.MadeGrows.{IsShown, step-shown}
 use Rattle.cg_agree_lemmas.specs.MadeRecovered.{recovery-shown}
-use Rattle.cg_commit.specs.CutRaiseLaws.{rising-behind}
+use Rattle.cg_disk_records.specs.CutRaiseLaws.{rising-behind}
 
 -- what a replica holds is what some greens make of it
 pub record IsCoreAt (start : List Weighted) (p : ℕ) (h : Held) : Type 0 where

@@ -11,7 +11,7 @@ use Rattle.cg_queue.specs.declared.mark.Mark.TheVariants.{Placed, Known}
 use Rattle.cg_client.specs.Turn.{Turn}
 use Rattle.cg_client.specs.Marks.{is_unmade, can_be_green, marked, mark_red, place_green, mark_green, mark_green_at}
 use Rattle.cg_client.specs.Install.{valid_yellow, yellow_green}
-use Rattle.cg_commit.specs.Holds.{run_on}
+use Rattle.cg_disk_records.specs.Holds.{run_on}
 use Rattle.cg_model.specs.Total.{fits_green, fits_red, all_fit, CanInstall}
 use Rattle.cg_agree_lemmas.specs.HeldMarks.{IsOneself, are_within}
 use Rattle.cg_agree_lemmas.specs.HeldInstall.{green-run}

@@ -19,8 +19,8 @@ use Rattle.cg_model.specs.Talk.{action_in}
 use Rattle.cg_model.specs.FactsReplica.{booked, AreBooked, MadeOnce}
 use Rattle.cg_model.specs.FactsTalk.{IsContent, AreContents, Content}
 use Rattle.cg_agree_lemmas.specs.HandMarks.{made-so}
-use Rattle.cg_commit.specs.Holds.{cut_behind}
-use Rattle.cg_commit.specs.RunMarkLaws.{run-names}
+use Rattle.cg_disk_records.specs.Holds.{cut_behind}
+use Rattle.cg_disk_records.specs.RunMarkLaws.{run-names}
 
 -- ---- booked actions
 

@@ -27,7 +27,7 @@ use Rattle.cg_construct.specs.No.{no_record}
 use Rattle.cg_exchange.specs.ExchangeStates.{is_usable, with_heard}
 use Rattle.cg_exchange.specs.ExchangeActions.{progress, is_next, mark_item, take_item, send_part, go_on}
 use Rattle.cg_exchange.specs.PlanEnd.{take_over, attempt, decide, end_plan}
-use Rattle.cg_replica_step.specs.Step.{on_message, on_regular, after_delivery}
+use Rattle.cg_model.specs.ReplicaStep.{on_message, on_regular, after_delivery}
 use Rattle.cg_model.specs.FactsReplica.{is_exchanging}
 use Rattle.cg_model.specs.Small.{take_newest, newest_conf}
 use Rattle.cg_model.specs.Smalls.{is_between}

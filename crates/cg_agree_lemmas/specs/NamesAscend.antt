@@ -11,8 +11,8 @@ use Rattle.cg_base.specs.Sets.{has}
 use Rattle.cg_base.specs.IdRuns.{names_above}
 use Rattle.cg_group.specs.EachLaws.{Each, Each-append}
 use Rattle.cg_model.specs.FactsLists.{IsRising}
-use Rattle.cg_commit.specs.Holds.{run_on, cut_behind, ascend, Rising}
-use Rattle.cg_commit.specs.RunMarkLaws.{run-names, before-parts, before-creator, before-index, before-trans}
+use Rattle.cg_disk_records.specs.Holds.{run_on, cut_behind, ascend, Rising}
+use Rattle.cg_disk_records.specs.RunMarkLaws.{run-names, before-parts, before-creator, before-index, before-trans}
 
 -- ---- names in order
 

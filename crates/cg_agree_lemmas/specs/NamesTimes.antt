@@ -7,11 +7,11 @@ use Rattle.cg_base.specs.Cuts.{index_in, raise}
 use Rattle.cg_base.specs.Ids.{same_id, names}
 use Rattle.cg_base.specs.IdLaws.{same_id-is}
 use Rattle.cg_model.specs.Fronts.{Front}
-use Rattle.cg_commit.specs.Holds.{run_on, cut_behind, Rising}
+use Rattle.cg_disk_records.specs.Holds.{run_on, cut_behind, Rising}
 use Rattle.cg_agree_lemmas.specs.FrontFacts.{Front-of_both, Front-append}
-use Rattle.cg_commit.specs.CutRaiseLaws.{index-same, index-rises, rising-raise}
-use Rattle.cg_commit.specs.RunLaws.{run_on-append}
-use Rattle.cg_commit.specs.RunMarkLaws.{run-head, run-rest, names-new}
+use Rattle.cg_disk_records.specs.CutRaiseLaws.{index-same, index-rises, rising-raise}
+use Rattle.cg_disk_records.specs.RunLaws.{run_on-append}
+use Rattle.cg_disk_records.specs.RunMarkLaws.{run-head, run-rest, names-new}
 use Rattle.cg_agree_lemmas.specs.BookGrows.{same-self}
 use Rattle.cg_agree_lemmas.specs.RepliesPlaced.{IsIn, times}
 

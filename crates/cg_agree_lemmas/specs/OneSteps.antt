@@ -12,7 +12,7 @@ use Rattle.cg_group.specs.State.{GroupState, Standing, standing_of, phase_of, is
 use Rattle.cg_group.specs.LookupLaws.{at-cond, eqb_comm, same_both}
 use Rattle.cg_client.specs.Replica.{Held, Replica}
 use Rattle.cg_client.specs.Turn.{Turn, begin}
-use Rattle.cg_commit.specs.Crash.{recovered}
+use Rattle.cg_disk_records.specs.Crash.{recovered}
 use Rattle.cg_model.specs.World.{NodeState, Up, Down as DownLife, Node, World, TransferState, running, node_of, has_begun, replica_of, set_life}
 use Rattle.cg_model.specs.Chronicle.{Chronicle}
 use Rattle.cg_model.specs.Looks.{disk_held, on_disk, snapshot_of, told_in, is_member, ordered_in}

@@ -1,5 +1,5 @@
 -- What a joiner is to begin with stands in the printed order, and its giver has it: behind each event too.
-use Rattle.cg_replica_step.specs.Step.{Input, Deliveries, Asks as AsksOf, replica_step}
+use Rattle.cg_model.specs.ReplicaStep.{Input, Deliveries, Asks as AsksOf, replica_step}
 use Rattle.cg_action.specs.declared.action.Kind.TheVariants.{Update, Join as JoinKind, Leave as LeaveKind}
 use Rattle.cg_schedule.specs.declared.event.Event.{Event}
 use Rattle.cg_schedule.specs.declared.event.Event.TheVariants.{Start, Split, Merge, Request, Weak, Dirty, Order, Recover, Show, ShowOrder, Gather, End, Receive, Deliver, Rounds, Stop, Fail, Join, Leave, Transfer}
@@ -18,7 +18,7 @@ use Rattle.cg_client.specs.Turn.{Turn}
 use Rattle.cg_group.specs.EachLaws.{Each, Each-append, Each-filter}
 use Rattle.cg_group.specs.Events.{deliver, handed_in_split, merge, split}
 use Rattle.cg_group.specs.declared.delivery.Handed.{Handed}
-use Rattle.cg_commit.specs.Crash.{Crashes, EventEnd, FailOnce, Runs, StopWith, Strike, end_event, new_disk}
+use Rattle.cg_disk_records.specs.Crash.{Crashes, EventEnd, FailOnce, Runs, StopWith, Strike, end_event, new_disk}
 use Rattle.cg_wire.specs.declared.message.Msg.{Msg}
 use Rattle.cg_client.specs.Joined.{piece_count}
 

@@ -15,8 +15,8 @@ use Rattle.cg_client.specs.Turn.{Turn}
 use Rattle.cg_group.specs.EachLaws.{Each}
 use Rattle.cg_group.specs.declared.delivery.Handed.{Handed}
 use Rattle.cg_queue.specs.Queue.{green_count}
-use Rattle.cg_commit.specs.Crash.{Crashes, EventEnd, Runs, end_event}
-use Rattle.cg_replica_step.specs.Step.{Deliveries, Input, replica_step}
+use Rattle.cg_disk_records.specs.Crash.{Crashes, EventEnd, Runs, end_event}
+use Rattle.cg_model.specs.ReplicaStep.{Deliveries, Input, replica_step}
 use Rattle.cg_wire.specs.declared.message.Msg.{Msg}
 
 -- who ran on has its greens in this order

@@ -8,14 +8,14 @@ use Rattle.cg_base.specs.Cuts.{index_in, raise}
 use Rattle.cg_base.specs.Ids.{same_id, names}
 use Rattle.cg_base.specs.IdLaws.{same_id-true, same_id-false}
 use Rattle.cg_action.specs.declared.action.Action.{Action}
-use Rattle.cg_answer.specs.declared.entry.DbEntry.{DbEntry}
+use Rattle.cg_action.specs.declared.entry.DbEntry.{DbEntry}
 use Rattle.cg_db.specs.Apply.{Applied, apply}
 use Rattle.cg_queue.specs.Queue.{names_of}
 use Rattle.cg_report.specs.declared.entry.Reply.{Reply}
 use Rattle.cg_client.specs.Marks.{is_first, after_owed, given_to, reply_to}
-use Rattle.cg_commit.specs.Holds.{run_on, cut_behind, Rising}
-use Rattle.cg_commit.specs.CutRaiseLaws.{index-same, index-other, rising-raise, behind-rises}
-use Rattle.cg_commit.specs.RunMarkLaws.{run-head, run-rest}
+use Rattle.cg_disk_records.specs.Holds.{run_on, cut_behind, Rising}
+use Rattle.cg_disk_records.specs.CutRaiseLaws.{index-same, index-other, rising-raise, behind-rises}
+use Rattle.cg_disk_records.specs.RunMarkLaws.{run-head, run-rest}
 use Rattle.cg_agree_lemmas.specs.TurnReplies.{owed_behind, replies_in}
 
 abbrev pub own_name : ℕ → ℕ → ActionId

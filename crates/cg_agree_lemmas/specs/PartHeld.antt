@@ -30,8 +30,8 @@ use Rattle.cg_model.specs.FactsReplica.{IsMadeOf}
 use Rattle.cg_agree_lemmas.specs.HandSays.{has_part}
 use Rattle.cg_agree_lemmas.specs.HandsContent.{turn-found}
 use Rattle.cg_agree_lemmas.specs.HeldMarks.{IsOneself, rising-green}
-use Rattle.cg_commit.specs.Holds.{cut_behind}
-use Rattle.cg_commit.specs.RunMarkLaws.{run-names}
+use Rattle.cg_disk_records.specs.Holds.{cut_behind}
+use Rattle.cg_disk_records.specs.RunMarkLaws.{run-names}
 
 -- how much of a part is held
 abbrev pub HoldsPart : Held → List Action → Part → Type 0

@@ -13,7 +13,7 @@ use Rattle.cg_client.specs.Replica.{State, RegPrim, TransPrim, ExchangeStates, E
 use Rattle.cg_client.specs.Turn.{Turn, begin, go_to}
 use Rattle.cg_construct.specs.Construct.{attempt_set, is_announced}
 use Rattle.cg_construct.specs.No.{no_with}
-use Rattle.cg_replica_step.specs.Step.{on_message, on_transitional, after_delivery}
+use Rattle.cg_model.specs.ReplicaStep.{on_message, on_transitional, after_delivery}
 use Rattle.cg_model.specs.Talk.{act_in}
 use Rattle.cg_model.specs.FactsReplica.{is_attempting, is_primary}
 use Rattle.cg_model.specs.Small.{take_all, take_parting}

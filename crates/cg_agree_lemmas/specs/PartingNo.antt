@@ -20,7 +20,7 @@ use Rattle.cg_client.specs.Turn.{Turn, go_to}
 use Rattle.cg_client.specs.Marks.{is_unmade, marked, mark_red, mark_yellow}
 use Rattle.cg_construct.specs.Construct.{attempt_set, is_announced}
 use Rattle.cg_construct.specs.No.{no_with, no_on_cpc}
-use Rattle.cg_replica_step.specs.Step.{on_message, after_delivery}
+use Rattle.cg_model.specs.ReplicaStep.{on_message, after_delivery}
 
 -- ---- states that messages of a parting don't change
 

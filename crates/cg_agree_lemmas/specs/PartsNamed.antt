@@ -21,7 +21,7 @@ use Rattle.cg_client.specs.Install.{actions_named, valid_yellow}
 use Rattle.cg_client.specs.Queries.{plain_reds}
 use Rattle.cg_model.specs.FactsAttempts.{names_between, red_names}
 use Rattle.cg_model.specs.FactsLists.{IsRising}
-use Rattle.cg_commit.specs.Holds.{cut_behind}
+use Rattle.cg_disk_records.specs.Holds.{cut_behind}
 use Rattle.cg_model.specs.Talk.{known_up_to}
 use Rattle.cg_agree_lemmas.specs.HandSays.{find-holds}
 use Rattle.cg_agree_lemmas.specs.HeldMarks.{IsOneself, are_within, rising-green}

@@ -31,7 +31,7 @@ use Rattle.cg_exchange.specs.PlanEnd.{take_over, begin_attempt, attempt, decide,
 use Rattle.cg_construct.specs.Construct.{attempt_set, is_announced, construct_with, construct_on_cpc}
 use Rattle.cg_construct.specs.No.{no_with, no_on_cpc, no_record, no_on_regular}
 use Rattle.cg_construct.specs.Un.{un_on_action}
-use Rattle.cg_replica_step.specs.Step.{on_message, on_transitional, on_regular, after_delivery}
+use Rattle.cg_model.specs.ReplicaStep.{on_message, on_transitional, on_regular, after_delivery}
 use Rattle.cg_agree_lemmas.specs.Parts.{IsPart, part-none, part-both, part-by_replica, part-choice, part-fold, part-changed, part-known, part-green, part-made, part-sent, part-replies, part-own}
 
 -- ---- marks

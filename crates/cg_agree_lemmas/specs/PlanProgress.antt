@@ -22,16 +22,16 @@ use Rattle.cg_client.specs.Marks.{is_unmade, marked, mark_red, after_first, can_
 use Rattle.cg_model.specs.Chronicle.{Told}
 use Rattle.cg_model.specs.FactsExchange.{red_index, red_behind}
 use Rattle.cg_model.specs.FactsReplica.{IsMadeOf}
-use Rattle.cg_commit.specs.Holds.{run_on, cut_behind}
+use Rattle.cg_disk_records.specs.Holds.{run_on, cut_behind}
 use Rattle.cg_agree_lemmas.specs.HandNext.{take-next}
 use Rattle.cg_agree_lemmas.specs.HeldMarks.{IsOneself, rising-green, rising-red, red-oneself, green-oneself}
-use Rattle.cg_commit.specs.CutRaiseLaws.{index-same, index-other}
-use Rattle.cg_commit.specs.RunLaws.{run_on-append}
+use Rattle.cg_disk_records.specs.CutRaiseLaws.{index-same, index-other}
+use Rattle.cg_disk_records.specs.RunLaws.{run_on-append}
 use Rattle.cg_agree_lemmas.specs.FrontFacts.{Front-take, Front-map}
 use Rattle.cg_agree_lemmas.specs.PlanItems.{ItemAt, plan-item, behind-next}
 use Rattle.cg_agree_lemmas.specs.RunFronts.{run_on-front}
-use Rattle.cg_commit.specs.RunMarkLaws.{run-head}
-use Rattle.cg_commit.specs.HeldLaws.{names-behind}
+use Rattle.cg_disk_records.specs.RunMarkLaws.{run-head}
+use Rattle.cg_disk_records.specs.HeldLaws.{names-behind}
 
 -- the most updated member and another one that remains, as they came: so many greens all that remain have
 pub record AreBeside (heard : List Summary) (low : ℕ) (best mine : Told) : Type 0 where

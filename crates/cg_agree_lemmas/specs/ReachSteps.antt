@@ -15,7 +15,7 @@ use Rattle.cg_group.specs.LookupLaws.{phase_of-set, configuration-set_standing, 
 use Rattle.cg_group.specs.PlaceLaws.{at_place-append, at_place-past}
 use Rattle.cg_client.specs.Turn.{Turn, begin}
 use Rattle.cg_client.specs.Requests.{settle}
-use Rattle.cg_commit.specs.Crash.{recovered}
+use Rattle.cg_disk_records.specs.Crash.{recovered}
 use Rattle.cg_model.specs.World.{NodeState, Up, Down as DownLife, World, node_of, replica_of}
 use Rattle.cg_model.specs.Step.{begin_replica}
 use Rattle.cg_model.specs.Chronicle.{Chronicle}

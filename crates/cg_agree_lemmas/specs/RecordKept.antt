@@ -18,7 +18,7 @@ use Rattle.cg_client.specs.Turn.{Turn, begin}
 use Rattle.cg_client.specs.Install.{prim_after}
 use Rattle.cg_client.specs.Requests.{settle}
 use Rattle.cg_disk_records.specs.Stored.{whiten, recovery_turn}
-use Rattle.cg_commit.specs.Crash.{Disk}
+use Rattle.cg_disk_records.specs.Crash.{Disk}
 use Rattle.cg_model.specs.World.{Up, Node, node_of, replica_of, running}
 use Rattle.cg_model.specs.Chronicle.{Told, Attempt, Chronicle}
 use Rattle.cg_model.specs.Looks.{greens_of, attempt_of}

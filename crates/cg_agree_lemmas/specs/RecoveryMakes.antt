@@ -14,8 +14,8 @@ use Rattle.cg_client.specs.Turn.{Turn, begin}
 use Rattle.cg_client.specs.Marks.{marked}
 use Rattle.cg_client.specs.Summary.{redden, forget_own, own_to_red}
 use Rattle.cg_disk_records.specs.Stored.{recovery_turn}
-use Rattle.cg_commit.specs.Crash.{Disk, recovered}
-use Rattle.cg_commit.specs.Holds.{cut_behind}
+use Rattle.cg_disk_records.specs.Crash.{Disk, recovered}
+use Rattle.cg_disk_records.specs.Holds.{cut_behind}
 use Rattle.cg_model.specs.Show.{unshown}
 use Rattle.cg_agree_lemmas.specs.HeldMarks.{IsOneself, are_within, rising-green, counted}
 use Rattle.cg_agree_lemmas.specs.HeldAll.{run-within}

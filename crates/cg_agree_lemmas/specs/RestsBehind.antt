@@ -16,8 +16,8 @@ use Rattle.cg_group.specs.State.{Sent, Configuration, GroupState, configuration,
 use Rattle.cg_group.specs.Events.{delivery_at, deliveries_at, transitional_places, furthest, handed_in_split, deliver, split, merge}
 use Rattle.cg_group.specs.EachLaws.{Each, Each-append}
 use Rattle.cg_client.specs.Replica.{Held, Replica, fresh}
-use Rattle.cg_replica_step.specs.Step.{Input, Deliveries, Asks as AsksOf}
-use Rattle.cg_commit.specs.Crash.{FailOnce, StopWith, Strike, at_rest, new_disk, recovered, disk_recovered}
+use Rattle.cg_model.specs.ReplicaStep.{Input, Deliveries, Asks as AsksOf}
+use Rattle.cg_disk_records.specs.Crash.{FailOnce, StopWith, Strike, at_rest, new_disk, recovered, disk_recovered}
 use Rattle.cg_schedule.specs.declared.event.Event.{Event}
 use Rattle.cg_schedule.specs.declared.event.Event.TheVariants.{Start, Split, Merge, Request, Weak, Dirty, Order, Recover, Show, ShowOrder, Gather, End, Receive, Deliver, Rounds, Stop, Fail, Join, Leave, Transfer}
 use Rattle.cg_model.specs.World.{NodeState, Up, Down, Node, World, running, node_of, replica_of, set_life, bring_up, TransferState}

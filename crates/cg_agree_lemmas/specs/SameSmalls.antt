@@ -17,7 +17,7 @@ use Rattle.cg_client.specs.Replica.{Held, Replica, fresh}
 use Rattle.cg_client.specs.Turn.{Turn, begin}
 use Rattle.cg_client.specs.Requests.{settle}
 use Rattle.cg_disk_records.specs.Stored.{stored_of, whiten, recovery_turn}
-use Rattle.cg_commit.specs.Crash.{Disk, new_disk, at_rest, recovered, disk_recovered}
+use Rattle.cg_disk_records.specs.Crash.{Disk, new_disk, at_rest, recovered, disk_recovered}
 use Rattle.cg_model.specs.World.{NodeState, Up, Down, Node, TransferState, World, running, node_of, replica_of, is_left_state, has_begun, set_life, bring_up, bring_down}
 use Rattle.cg_model.specs.Step.{begin_replica, name_also, joiner_replica, without_snapshot}
 use Rattle.cg_model.specs.Looks.{on_disk, disk_held, snapshot_of}

@@ -12,7 +12,7 @@ use Rattle.cg_client.specs.Replica.{Held, Replica}
 use Rattle.cg_client.specs.Turn.{Turn, begin}
 use Rattle.cg_client.specs.Requests.{settle}
 use Rattle.cg_disk_records.specs.Stored.{stored_of, whiten}
-use Rattle.cg_commit.specs.Crash.{Disk, new_disk, at_rest, recovered, disk_recovered}
+use Rattle.cg_disk_records.specs.Crash.{Disk, new_disk, at_rest, recovered, disk_recovered}
 use Rattle.cg_model.specs.World.{NodeState, Up, Down, World, node_of, replica_of, set_life, bring_up, bring_down}
 use Rattle.cg_model.specs.Step.{begin_replica, joiner_replica, without_snapshot}
 use Rattle.cg_model.specs.Chronicle.{Told, Chronicle, no_chronicle}

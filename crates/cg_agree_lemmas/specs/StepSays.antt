@@ -10,8 +10,8 @@ use Rattle.cg_queue.specs.Queue.{names_of}
 use Rattle.cg_client.specs.Replica.{Held, State, RegPrim, TransPrim, ExchangeStates, ExchangeActions, Construct, No, Un, NonPrim, Left, Replica, last_index, created}
 use Rattle.cg_client.specs.Turn.{Turn, begin, with_held}
 use Rattle.cg_client.specs.Requests.{is_creating, next_action, create, create_kept, empty_buffer, buffer, settle, request_in, request}
-use Rattle.cg_replica_step.specs.Step.{Input, Deliveries, Asks, replica_step, after_delivery}
-use Rattle.cg_commit.specs.Holds.{cut_behind}
+use Rattle.cg_model.specs.ReplicaStep.{Input, Deliveries, Asks, replica_step, after_delivery}
+use Rattle.cg_disk_records.specs.Holds.{cut_behind}
 use Rattle.cg_agree_lemmas.specs.HeldMarks.{IsOneself, rising-green}
 use Rattle.cg_agree_lemmas.specs.CreatedKept.{StaysCreated, created-rule, created-first}
 use Rattle.cg_agree_lemmas.specs.TurnRows.{of-deliveries}
@@ -20,7 +20,7 @@ use Rattle.cg_agree_lemmas.specs.MadeWorlds.{IsCoreAt}
 use Rattle.cg_agree_lemmas.specs.RepliesPlaced.{reply_ids}
 use Rattle.cg_agree_lemmas.specs.TurnReplies.{owed_behind, replies_in, IsAnswered, step-answered}
 use Rattle.cg_agree_lemmas.specs.OwedNames.{own_name, own_names, own-append, is_behind, owed_names, owed-on}
-use Rattle.cg_commit.specs.HeldLaws.{names-behind}
+use Rattle.cg_disk_records.specs.HeldLaws.{names-behind}
 
 -- ---- what is made
 

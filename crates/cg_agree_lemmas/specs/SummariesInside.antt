@@ -14,7 +14,7 @@ use Rattle.cg_group.specs.Events.{delivery_at, deliveries_at}
 use Rattle.cg_client.specs.Replica.{Replica}
 use Rattle.cg_client.specs.Turn.{Turn, begin}
 use Rattle.cg_disk_records.specs.Stored.{stored_of, whiten}
-use Rattle.cg_commit.specs.Crash.{Disk, whitened, at_rest}
+use Rattle.cg_disk_records.specs.Crash.{Disk, whitened, at_rest}
 use Rattle.cg_model.specs.World.{NodeState, Up, Down, Node, running, node_of, replica_of}
 use Rattle.cg_model.specs.Chronicle.{Chronicle}
 use Rattle.cg_model.specs.Looks.{greens_of, is_at, is_in}

@@ -25,7 +25,7 @@ use Rattle.cg_exchange.specs.ExchangeActions.{progress, is_next, take_item, send
 use Rattle.cg_exchange.specs.PlanEnd.{take_over, attempt, decide, end_plan}
 use Rattle.cg_construct.specs.Construct.{attempt_set, is_announced, construct_with}
 use Rattle.cg_construct.specs.No.{no_with}
-use Rattle.cg_replica_step.specs.Step.{on_message}
+use Rattle.cg_model.specs.ReplicaStep.{on_message}
 use Rattle.cg_model.specs.FactsReplica.{is_attempting, is_primary}
 use Rattle.cg_agree_lemmas.specs.TurnValues.{SameValues, same-values, values-then, IsEven, even-refl, even-mark_red, even-mark_yellow, even-mark_green, even-take_item, even-send_part, even-installed}
 

@@ -20,7 +20,7 @@ use Rattle.cg_prim.specs.TransPrim.{end_prim}
 use Rattle.cg_base.specs.Sets.{is_within, with_member}
 use Rattle.cg_construct.specs.Construct.{attempt_set, is_announced}
 use Rattle.cg_construct.specs.No.{no_record, no_with}
-use Rattle.cg_replica_step.specs.Step.{on_message, on_transitional, on_regular, after_delivery}
+use Rattle.cg_model.specs.ReplicaStep.{on_message, on_transitional, on_regular, after_delivery}
 use Rattle.cg_model.specs.FactsReplica.{is_attempting, is_primary}
 use Rattle.cg_model.specs.Small.{take_all, take_newest, take_next, take_parting, take_request, newest_conf}
 use Rattle.cg_model.specs.Smalls.{is_between}

@@ -8,7 +8,7 @@ use Rattle.cg_base.specs.declared.action_id.ActionId.{ActionId}
 use Rattle.cg_base.specs.Cuts.{index_in, raise}
 use Rattle.cg_action.specs.declared.action.Action.{Action}
 use Rattle.cg_action.specs.declared.action.Kind.{Kind}
-use Rattle.cg_answer.specs.declared.entry.DbEntry.{DbEntry}
+use Rattle.cg_action.specs.declared.entry.DbEntry.{DbEntry}
 use Rattle.cg_db.specs.Apply.{apply}
 use Rattle.cg_queue.specs.Queue.{Marks, Gaps, placed_red, names_of}
 use Rattle.cg_queue.specs.declared.mark.Mark.TheVariants.{Placed, Known}
@@ -18,10 +18,10 @@ use Rattle.cg_client.specs.Turn.{Turn, begin}
 use Rattle.cg_client.specs.Marks.{marked, after_owed, given_to, place_green}
 use Rattle.cg_client.specs.Requests.{is_creating, next_action, create, create_kept, empty_buffer, buffer, settle, request_in, request}
 use Rattle.cg_client.specs.Summary.{redden, forget_own, own_to_red}
-use Rattle.cg_replica_step.specs.Step.{Input, Deliveries, Asks, replica_step, after_delivery}
-use Rattle.cg_commit.specs.Holds.{run_on, cut_behind}
-use Rattle.cg_commit.specs.RunLaws.{cut_behind-append, run_on-next}
-use Rattle.cg_commit.specs.HeldLaws.{names-behind}
+use Rattle.cg_model.specs.ReplicaStep.{Input, Deliveries, Asks, replica_step, after_delivery}
+use Rattle.cg_disk_records.specs.Holds.{run_on, cut_behind}
+use Rattle.cg_disk_records.specs.RunLaws.{cut_behind-append, run_on-next}
+use Rattle.cg_disk_records.specs.HeldLaws.{names-behind}
 use Rattle.cg_agree_lemmas.specs.TurnRows.{IsRule, of-deliveries}
 use Rattle.cg_agree_lemmas.specs.KeptEmpty.{anything}
 

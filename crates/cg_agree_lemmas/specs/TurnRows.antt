@@ -39,11 +39,11 @@ use Rattle.cg_exchange.specs.ExchangeStates.{is_usable, with_heard, exchange_sta
 use Rattle.cg_construct.specs.Construct.{attempt_set, is_announced, construct_with, construct_on_cpc}
 use Rattle.cg_construct.specs.No.{no_record, no_with, no_on_cpc}
 use Rattle.cg_construct.specs.Un.{un_on_action}
-use Rattle.cg_replica_step.specs.Step.{on_message, on_transitional, on_regular, after_delivery}
-use Rattle.cg_replica_step.specs.Recorded.{OfMessage}
+use Rattle.cg_model.specs.ReplicaStep.{on_message, on_transitional, on_regular, after_delivery}
+use Rattle.cg_model.specs.Recorded.{OfMessage}
 use Rattle.cg_model.specs.World.{is_left_state}
 use Rattle.cg_model.specs.Talk.{action_in}
-use Rattle.cg_commit.specs.HeldLaws.{each-found}
+use Rattle.cg_disk_records.specs.HeldLaws.{each-found}
 
 -- what is held with other values, and another yellow list
 abbrev pub with_values : Held → List ActionId → Bool → Primary → ℕ → Option Vulnerable → Held

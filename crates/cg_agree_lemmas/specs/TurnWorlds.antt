@@ -10,8 +10,8 @@ use Rattle.cg_group.specs.Events.{send_all, go_down}
 use Rattle.cg_client.specs.Replica.{Replica}
 use Rattle.cg_client.specs.Turn.{Turn, begin}
 use Rattle.cg_disk_records.specs.Stored.{stored_of, whiten}
-use Rattle.cg_commit.specs.Commit.{commits}
-use Rattle.cg_commit.specs.Crash.{Disk, EventEnd, Runs, Crashes as EndsInCrash, at_rest, whitened, end_event}
+use Rattle.cg_disk_records.specs.Commit.{commits}
+use Rattle.cg_disk_records.specs.Crash.{Disk, EventEnd, Runs, Crashes as EndsInCrash, at_rest, whitened, end_event}
 use Rattle.cg_model.specs.World.{NodeState, Up, Down, Node, World, running, node_of, replica_of, with_node, set_life, bring_down}
 use Rattle.cg_model.specs.Looks.{on_disk}
 use Rattle.cg_model.specs.Turns.{Taken, is_kept}

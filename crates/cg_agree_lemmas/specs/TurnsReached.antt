@@ -1,5 +1,5 @@
 -- Where a replica's turn stands, the small steps of its event come to a world in which it is as the turn leaves it, before its commit.
-use Rattle.cg_commit.specs.Crash.{Disk, EventEnd, Runs, Crashes as EndsInCrash, end_event}
+use Rattle.cg_disk_records.specs.Crash.{Disk, EventEnd, Runs, Crashes as EndsInCrash, end_event}
 use Rattle.cg_model.specs.Small.{Small, Commits, Crashes}
 use Rattle.cg_model.specs.World.{NodeState, Up, Down, Node, World, running, node_of, replica_of}
 use Rattle.cg_agree_lemmas.specs.TurnWorlds.{up_node, hosted, node-hosted, turn-ends}
@@ -21,8 +21,8 @@ use Rattle.cg_group.specs.EachLaws.{Each, Each-weaker}
 use Rattle.cg_group.specs.Events.{send_all}
 use Rattle.cg_group.specs.State.{GroupState, Standing, set_standing}
 use Rattle.cg_group.specs.declared.delivery.Delivery.{Delivery}
-use Rattle.cg_commit.specs.Commit.{commits}
-use Rattle.cg_replica_step.specs.Step.{Deliveries, Input, replica_step}
+use Rattle.cg_disk_records.specs.Commit.{commits}
+use Rattle.cg_model.specs.ReplicaStep.{Deliveries, Input, replica_step}
 use Rattle.cg_wire.specs.declared.message.Msg.{Msg}
 
 pub record IsReached (w : World) (smalls : List Small) (p : ℕ) (t : Turn) : Type 0 where

@@ -13,7 +13,7 @@ use Rattle.cg_group.specs.Events.{come_up, receive, with_receipt, become_regular
 use Rattle.cg_group.specs.Refusals.{not_up, not_regular, nothing_to_order, order_refusal}
 use Rattle.cg_client.specs.Turn.{Turn, begin}
 use Rattle.cg_client.specs.Requests.{settle}
-use Rattle.cg_commit.specs.Crash.{recovered}
+use Rattle.cg_disk_records.specs.Crash.{recovered}
 use Rattle.cg_model.specs.World.{NodeState, Up, Down, Node, World, node_of, replica_of}
 use Rattle.cg_model.specs.Step.{begin_replica}
 use Rattle.cg_model.specs.Chronicle.{Chronicle}

@@ -7,8 +7,8 @@ use Rattle.cg_wire.specs.declared.message.Msg.{Msg}
 use Rattle.cg_group.specs.declared.delivery.Handed.{Handed}
 use Rattle.cg_group.specs.EachLaws.{Each}
 use Rattle.cg_client.specs.Replica.{Replica}
-use Rattle.cg_replica_step.specs.Step.{Input, Deliveries, replica_step}
-use Rattle.cg_commit.specs.Crash.{Disk, end_event}
+use Rattle.cg_model.specs.ReplicaStep.{Input, Deliveries, replica_step}
+use Rattle.cg_disk_records.specs.Crash.{Disk, end_event}
 use Rattle.cg_model.specs.World.{NodeState, Up, Down, Node, World, node_of}
 use Rattle.cg_model.specs.Show.{StepInProgress}
 use Rattle.cg_model.specs.Step.{hand_to, hand, hand_over}

@@ -14,13 +14,13 @@ use Rattle.cg_knowledge.specs.Summaries.{lowest, most_updated}
 use Rattle.cg_knowledge.specs.Primary.{knows_prim, newest_index, newest}
 use Rattle.cg_knowledge.specs.Yellow.{yellow_group, is_green_at_most, is_in_each, is_common, yellow_of, common_yellow}
 use Rattle.cg_exchange.specs.PlanEnd.{with_name, usable_names}
-use Rattle.cg_commit.specs.Holds.{run_on, cut_behind, Rising}
-use Rattle.cg_commit.specs.CutRaiseLaws.{rising-raise, index-same, index-other}
+use Rattle.cg_disk_records.specs.Holds.{run_on, cut_behind, Rising}
+use Rattle.cg_disk_records.specs.CutRaiseLaws.{rising-raise, index-same, index-other}
 use Rattle.cg_agree_lemmas.specs.EndCovers.{OfEach, lowest-of}
 use Rattle.cg_agree_lemmas.specs.EndCuts.{run-above}
 use Rattle.cg_agree_lemmas.specs.HeldMarks.{are_within, within-rises, within-filter}
-use Rattle.cg_commit.specs.RunLaws.{run_on-append}
-use Rattle.cg_commit.specs.RunMarkLaws.{run-head, run-rest, run-from, run-names, names-new}
+use Rattle.cg_disk_records.specs.RunLaws.{run_on-append}
+use Rattle.cg_disk_records.specs.RunMarkLaws.{run-head, run-rest, run-from, run-names, names-new}
 
 -- ---- a part of a run
 

@@ -11,7 +11,7 @@ use Rattle.cg_action.specs.declared.command.Cmd.TheVariants.{Put, Del, Inc, Cas,
 use Rattle.cg_action.specs.declared.action.Kind.{Kind}
 use Rattle.cg_action.specs.declared.action.Kind.TheVariants.{Update, Join, Leave}
 use Rattle.cg_action.specs.declared.action.Action.{Action}
-use Rattle.cg_answer.specs.declared.entry.DbEntry.{DbEntry}
+use Rattle.cg_action.specs.declared.entry.DbEntry.{DbEntry}
 use Rattle.cg_db.specs.Map.{value_of, put, remove, has_value}
 use Rattle.cg_db.specs.Ascending.{Ascends}
 use Rattle.cg_db.specs.Apply.{Ran, Changed, Aborts, Overflows, number_of, add_number, add_to, move_number, run_command, run_commands, apply_kind, apply}

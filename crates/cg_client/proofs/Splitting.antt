@@ -3,7 +3,7 @@ use Rattle.std.proofs.Common.{◌≡◌, ℕ, Bool, true, false, cond, not, List
 use Rattle.std.specs.Prelude.{Some, None, filter, fold}
 use Rattle.cg_text.specs.Order.{same_text, text_before}
 use Rattle.cg_action.specs.declared.value.Value.{Value}
-use Rattle.cg_answer.specs.declared.entry.DbEntry.{DbEntry}
+use Rattle.cg_action.specs.declared.entry.DbEntry.{DbEntry}
 use Rattle.cg_db.specs.Map.{value_of, put, remove}
 use Rattle.cg_db.specs.Ascending.{IsBefore, Ascends}
 use Rattle.cg_db.specs.TextOrderLaws.{same-is, same-sym, before-apart, before-back}

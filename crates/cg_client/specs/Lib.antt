@@ -10,3 +10,9 @@ pub mod Joined
 pub mod Queries
 pub mod Overlay
 pub mod Whitening
+pub mod Kept
+pub mod Components
+pub mod Own
+pub mod OwnLaws
+pub mod Chosen
+pub mod Weighing

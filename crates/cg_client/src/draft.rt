@@ -4,10 +4,9 @@ ghost use Rattle.cg_records.specs.Limits.{Each};
 ghost use Rattle.cg_wire.specs.Limits.{IsMsg};
 ghost use Rattle.cg_client.specs.Drafts.{no_parts};
 
-use crate::DraftParts;
+use crate::{Actions, DraftParts, Messages, Names};
 use cg_action::ActionList;
 use cg_base::{IdList, NoMemory, Row};
-use cg_parts::{Actions, Messages, Names};
 use cg_report::Reply;
 use cg_wire::Msg;
 use std::alloc::Global;

@@ -5,8 +5,7 @@ ghost use Rattle.cg_db.specs.Find.{answer};
 ghost use Rattle.cg_db.specs.Limits.{AreEntries};
 ghost use Rattle.cg_db.specs.Ascending.{Ascends};
 
-use cg_action::{Action, Query};
-use cg_answer::{Answer, Effect, EntryList};
+use cg_action::{Action, Answer, Effect, EntryList, Query};
 use cg_base::NoMemory;
 use cg_db::{Db, entries_stay_within_limits};
 use std::alloc::Global;
@@ -25,7 +24,7 @@ impl Drop for Entries {
 
 impl Model for Entries {
     ghost use Rattle.std.specs.Prelude.{List};
-    ghost use Rattle.cg_answer.specs.declared.entry.DbEntry.{DbEntry};
+    ghost use Rattle.cg_action.specs.declared.entry.DbEntry.{DbEntry};
     ghost use Rattle.cg_db.specs.Limits.{AreEntries};
 
     ghost Value = { List DbEntry };

@@ -2,8 +2,8 @@ ghost use Rattle.std.specs.Prelude.{◌≡◌, ◌<◌, IfOk};
 ghost use Rattle.cg_client.specs.Replica.{fresh_held, created};
 
 use crate::entries::Entries;
+use crate::{CheckedQueue, CheckedServers, Components, Fifo, KeptRequest, Own, last_index};
 use cg_base::{ActionId, Cut, NoMemory, ReplicaId, Row, WeightSet};
-use cg_parts::{CheckedQueue, CheckedServers, Components, Fifo, KeptRequest, Own, last_index};
 use std::alloc::Global;
 use std::marker::Model;
 

@@ -8,10 +8,9 @@ ghost use Rattle.cg_client.specs.Marks.{mark_green};
 ghost use Rattle.cg_client.specs.Install.{yellow_green, reds_green, with_prim, prim_after, install};
 ghost use Rattle.cg_client.specs.Drafts.{turn_with};
 
-use crate::{Core, Draft};
+use crate::{Components, Core, Draft, actions_named, weigh};
 use cg_action::ActionList;
 use cg_base::{IdSet, NoMemory, Row};
-use cg_parts::{Components, actions_named, weigh};
 use cg_records::Primary;
 use std::marker::Model;
 

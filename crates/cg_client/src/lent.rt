@@ -1,6 +1,6 @@
 //! What a replica holds in lists and maps, lent: a checkpoint copies none of it.
 ghost use Rattle.std.specs.Prelude.{◌≡◌};
-ghost use Rattle.cg_parts.specs.Kept.{AreKept};
+ghost use Rattle.cg_client.specs.Kept.{AreKept};
 ghost use Rattle.cg_db.specs.Limits.{AreEntries};
 
 use crate::Core;

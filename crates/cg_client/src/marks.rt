@@ -10,11 +10,9 @@ ghost use Rattle.cg_client.specs.Marks.{is_unmade, can_be_green, after_owed, is_
 ghost use Rattle.cg_queue.specs.Queue.{marked_red, marked_yellow};
 
 use crate::entries::Entries;
-use crate::{Core, Draft};
-use cg_action::{Action, Kind};
-use cg_answer::{Answer, Effect};
+use crate::{Core, Draft, Fifo, drop_own, name_of, note_unknown, put_green};
+use cg_action::{Action, Answer, Effect, Kind};
 use cg_base::{ActionId, COUNT_LIMIT, NoMemory, Row};
-use cg_parts::{Fifo, drop_own, name_of, note_unknown, put_green};
 use cg_queue::{Mark, QueueFault, is_next};
 use cg_report::Reply;
 

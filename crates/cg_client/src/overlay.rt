@@ -3,16 +3,15 @@ ghost use Rattle.std.specs.Prelude.{◌≡◌, ◌≤◌, ℕ, List, ◌∷◌, 
 ghost use Rattle.cg_action.specs.ActionLimits.{IsAction};
 ghost use Rattle.cg_action.specs.declared.query.Query.TheVariants.{Keys as KeysOf};
 ghost use Rattle.cg_db.specs.Find.{answer};
-ghost use Rattle.cg_answer.specs.declared.answer.Answer.TheVariants.{Keys};
+ghost use Rattle.cg_action.specs.declared.answer.Answer.TheVariants.{Keys};
 ghost use Rattle.cg_records.specs.Limits.{Each};
 ghost use Rattle.cg_client.specs.Queries.{behind};
 ghost use Rattle.cg_client.specs.Overlay.{with_key, with_command, with_commands, with_action, named_part, has_key, with_mark, merged_keys, answer_with};
 
-use cg_action::{Action, ActionList, Cmd, Kind, Query, Value};
-use cg_answer::{Answer, TxtList};
+use crate::Actions;
+use cg_action::{Action, ActionList, Answer, Cmd, Kind, Query, TxtList, Value};
 use cg_base::NoMemory;
 use cg_db::Db;
-use cg_parts::Actions;
 use cg_text::Txt;
 use std::alloc::Global;
 

@@ -2,12 +2,10 @@
 ghost use Rattle.std.specs.Prelude.{◌≡◌, IfOk};
 ghost use Rattle.cg_client.specs.Queries.{weak_answer, dirty_answer, view_of};
 
-use crate::Core;
 use crate::overlay::answer_behind;
-use cg_action::Query;
-use cg_answer::Answer;
+use crate::{Core, actions_named, add_plain_reds, plain_names};
+use cg_action::{Answer, Query};
 use cg_base::NoMemory;
-use cg_parts::{actions_named, add_plain_reds, plain_names};
 use cg_records::Yellow;
 use cg_report::View;
 

@@ -13,8 +13,7 @@ ghost use Rattle.cg_queue.specs.Queue.{action_of, green_count, names_of};
 ghost use Rattle.cg_client.specs.Replica.{created};
 
 use crate::Core;
-use cg_action::{Action, ActionList};
-use cg_answer::EntryList;
+use cg_action::{Action, ActionList, EntryList};
 use cg_base::{ActionId, Cut, IdSet, NoMemory, ReplicaId};
 use cg_members::Members;
 use cg_records::{Primary, Vulnerable};

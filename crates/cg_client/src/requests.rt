@@ -5,10 +5,9 @@ ghost use Rattle.cg_client.specs.Drafts.{turn_with};
 ghost use Rattle.cg_client.specs.Replica.{State};
 ghost use Rattle.cg_client.specs.Requests.{create, create_kept};
 
-use crate::{Core, Draft};
+use crate::{Core, Draft, KeptRequest};
 use cg_action::{Action, Kind};
 use cg_base::{ActionId, COUNT_LIMIT, NoMemory, Row};
-use cg_parts::KeptRequest;
 use cg_wire::Msg;
 use std::mem::replace;
 

@@ -6,24 +6,23 @@ ghost use Rattle.cg_action.specs.ActionLimits.{IsAction};
 ghost use Rattle.cg_db.specs.Limits.{AreEntries};
 ghost use Rattle.cg_records.specs.Limits.{Each, IsIndex, IsNumber, IsStable};
 ghost use Rattle.cg_queue.specs.Queue.{resumed, placed_red, placed_green, green_count, action_of};
-ghost use Rattle.cg_parts.specs.Own.{after_first};
+ghost use Rattle.cg_client.specs.Own.{after_first};
 ghost use Rattle.cg_client.specs.Marks.{with_green};
 ghost use Rattle.cg_client.specs.Replica.{created, yellow_of};
 ghost use Rattle.cg_client.specs.Whitening.{with_white};
 ghost use Rattle.cg_client.specs.Calls.{IsLineGreen};
 
-use crate::Core;
 use crate::entries::Entries;
 use crate::held::Holding;
 use crate::marks::drop_owed;
+use crate::{
+    CheckedQueue, CheckedServers, Components, Core, Fifo, Own, drop_own, is_number, name_of,
+    put_green, put_red,
+};
 use cg_action::Action;
 use cg_base::{ActionId, COUNT_LIMIT, Cut, LIST_LIMIT, NoMemory, ReplicaId, Row};
 use cg_db::Db;
 use cg_members::Members;
-use cg_parts::{
-    CheckedQueue, CheckedServers, Components, Fifo, Own, drop_own, is_number, name_of, put_green,
-    put_red,
-};
 use cg_records::{Primary, Stable, Vulnerable, Yellow};
 use std::alloc::Global;
 

@@ -8,10 +8,9 @@ ghost use Rattle.cg_client.specs.Drafts.{turn_with};
 ghost use Rattle.cg_client.specs.Replica.{State, ExchangeStates};
 ghost use Rattle.cg_client.specs.Summary.{redden, own_to_red, summary_of, enter_exchange};
 
-use crate::{Core, Draft};
+use crate::{Components, Core, Draft, Own, is_number};
 use cg_base::{IdSet, LIST_LIMIT, NoMemory};
 use cg_knowledge::Summary;
-use cg_parts::{Components, Own, is_number};
 use cg_records::{Primary, Vulnerable, Yellow};
 use cg_wire::Msg;
 use std::mem::replace;

@@ -8,8 +8,8 @@ use Rattle.cg_action.specs.declared.value.Value.{Value}
 use Rattle.cg_action.specs.declared.value.Value.TheVariants.{Text, Int}
 use Rattle.cg_action.specs.declared.command.Cmd.{Cmd}
 use Rattle.cg_action.specs.declared.command.Cmd.TheVariants.{Put, Inc}
-use Rattle.cg_answer.specs.declared.entry.DbEntry.{DbEntry}
-use Rattle.cg_answer.specs.declared.effect.Effect.TheVariants.{Done, Aborted, Range}
+use Rattle.cg_action.specs.declared.entry.DbEntry.{DbEntry}
+use Rattle.cg_action.specs.declared.effect.Effect.TheVariants.{Done, Aborted, Range}
 use Rattle.cg_db.specs.Map.{value_of, put}
 use Rattle.cg_db.specs.Ascending.{Ascends}
 use Rattle.cg_db.specs.Apply.{Ran, Changed, Aborts, Overflows, number_of, run_command, run_commands}

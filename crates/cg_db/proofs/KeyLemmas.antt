@@ -12,7 +12,7 @@ use Rattle.std.proofs.lemmas.List.Sorted.{list_any-IsPermutation}
 use Rattle.cg_text.specs.Order.{same_text, text_before, begins_with}
 use Rattle.cg_action.specs.declared.value.Value.{Value}
 use Rattle.cg_action.specs.declared.value.Value.TheVariants.{Int}
-use Rattle.cg_answer.specs.declared.entry.DbEntry.{DbEntry}
+use Rattle.cg_action.specs.declared.entry.DbEntry.{DbEntry}
 use Rattle.cg_db.specs.Map.{value_of, put, keys}
 use Rattle.cg_db.specs.Ascending.{IsBefore, Ascends}
 use Rattle.cg_db.specs.View.{of_entries, entry_at}

@@ -10,9 +10,9 @@ use Rattle.cg_text.specs.Order.{same_text}
 use Rattle.cg_text.specs.Numbers.{fits_i64}
 use Rattle.cg_action.specs.declared.value.Value.{Value}
 use Rattle.cg_action.specs.declared.command.Cmd.{Cmd}
-use Rattle.cg_answer.specs.declared.entry.DbEntry.{DbEntry}
-use Rattle.cg_answer.specs.declared.effect.Effect.{Effect}
-use Rattle.cg_answer.specs.declared.effect.Effect.TheVariants.{Done, Aborted, Range}
+use Rattle.cg_action.specs.declared.entry.DbEntry.{DbEntry}
+use Rattle.cg_action.specs.declared.effect.Effect.{Effect}
+use Rattle.cg_action.specs.declared.effect.Effect.TheVariants.{Done, Aborted, Range}
 use Rattle.cg_db.specs.declared.changes.KeyChange.{KeyChange}
 use Rattle.cg_db.specs.Map.{value_of}
 use Rattle.cg_db.specs.Apply.{Ran, Changed, Aborts, Overflows, Applied, run_command, run_commands}

@@ -8,7 +8,7 @@ use Rattle.std.specs.Cmp.Lexicographic.{bytes_decides, nat_list_eq_equiv}
 use Rattle.std.proofs.lemmas.Bool.{cases_Bool}
 use Rattle.cg_text.specs.Order.{same_text}
 use Rattle.cg_action.specs.declared.value.Value.{Value}
-use Rattle.cg_answer.specs.declared.entry.DbEntry.{DbEntry}
+use Rattle.cg_action.specs.declared.entry.DbEntry.{DbEntry}
 use Rattle.cg_db.specs.Map.{value_of}
 use Rattle.cg_db.specs.Ascending.{Ascends}
 use Rattle.cg_db.specs.View.{of_entries}

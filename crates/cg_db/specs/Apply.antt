@@ -8,9 +8,9 @@ use Rattle.cg_action.specs.declared.command.Cmd.TheVariants.{Put, Del, Inc, Cas,
 use Rattle.cg_action.specs.declared.action.Kind.{Kind}
 use Rattle.cg_action.specs.declared.action.Kind.TheVariants.{Update, Join, Leave}
 use Rattle.cg_action.specs.declared.action.Action.{Action}
-use Rattle.cg_answer.specs.declared.entry.DbEntry.{DbEntry}
-use Rattle.cg_answer.specs.declared.effect.Effect.{Effect}
-use Rattle.cg_answer.specs.declared.effect.Effect.TheVariants.{Done, Aborted, Range}
+use Rattle.cg_action.specs.declared.entry.DbEntry.{DbEntry}
+use Rattle.cg_action.specs.declared.effect.Effect.{Effect}
+use Rattle.cg_action.specs.declared.effect.Effect.TheVariants.{Done, Aborted, Range}
 use Rattle.cg_db.specs.Map.{value_of, put, remove, has_value}
 
 -- how one command ends: with a changed database, or as one that fails

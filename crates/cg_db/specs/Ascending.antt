@@ -1,7 +1,7 @@
 -- The order of the entries.
 use Rattle.std.specs.Prelude.{◌≡◌, ℕ, true, List, [], ◌∷◌}
 use Rattle.cg_text.specs.Order.{text_before}
-use Rattle.cg_answer.specs.declared.entry.DbEntry.{DbEntry}
+use Rattle.cg_action.specs.declared.entry.DbEntry.{DbEntry}
 
 -- the first of the keys comes after the given one
 abbrev pub IsBefore : List ℕ → List DbEntry → Type 0

@@ -7,9 +7,9 @@ use Rattle.cg_action.specs.declared.query.Query.{Query}
 use Rattle.cg_action.specs.declared.query.Query.TheVariants.{Get, Keys as KeysOf, Count as CountAll}
 use Rattle.cg_action.specs.declared.action.Kind.{Kind}
 use Rattle.cg_action.specs.declared.action.Kind.TheVariants.{Update, Join, Leave}
-use Rattle.cg_answer.specs.declared.entry.DbEntry.{DbEntry}
-use Rattle.cg_answer.specs.declared.answer.Answer.{Answer}
-use Rattle.cg_answer.specs.declared.answer.Answer.TheVariants.{Absent, Text, Int, Keys, Count}
+use Rattle.cg_action.specs.declared.entry.DbEntry.{DbEntry}
+use Rattle.cg_action.specs.declared.answer.Answer.{Answer}
+use Rattle.cg_action.specs.declared.answer.Answer.TheVariants.{Absent, Text, Int, Keys, Count}
 use Rattle.cg_db.specs.Map.{value_of, keys}
 
 -- what is answered of a key's value

@@ -1,7 +1,7 @@
 -- Which entries a database may have: the keys and values of actions.
 use Rattle.std.specs.Prelude.{List, [], ◌∷◌}
 use Rattle.cg_action.specs.ActionLimits.{IsKey, IsValue}
-use Rattle.cg_answer.specs.declared.entry.DbEntry.{DbEntry}
+use Rattle.cg_action.specs.declared.entry.DbEntry.{DbEntry}
 
 pub record IsEntry (entry : DbEntry) : Type 0 where
   pub key : IsKey entry.key

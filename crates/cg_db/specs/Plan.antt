@@ -2,9 +2,9 @@
 use Rattle.std.specs.Prelude.{ℕ, List, ◌++◌, Option, Some, None, fold}
 use Rattle.std.specs.Option.{option_to_list}
 use Rattle.cg_action.specs.declared.value.Value.{Value}
-use Rattle.cg_answer.specs.declared.entry.DbEntry.{DbEntry}
-use Rattle.cg_answer.specs.declared.effect.Effect.{Effect}
-use Rattle.cg_answer.specs.declared.effect.Effect.TheVariants.{Done, Aborted, Range}
+use Rattle.cg_action.specs.declared.entry.DbEntry.{DbEntry}
+use Rattle.cg_action.specs.declared.effect.Effect.{Effect}
+use Rattle.cg_action.specs.declared.effect.Effect.TheVariants.{Done, Aborted, Range}
 use Rattle.cg_db.specs.declared.changes.KeyChange.{KeyChange}
 use Rattle.cg_db.specs.declared.changes.Changes.{Changes}
 use Rattle.cg_db.specs.declared.plan.CommandEnd.{CommandEnd}

@@ -1,7 +1,7 @@
 -- What is seen of a map under texts.
 use Rattle.std.specs.Prelude.{ℕ, List, [], ◌∷◌, Option, Some, None}
 use Rattle.cg_action.specs.declared.value.Value.{Value}
-use Rattle.cg_answer.specs.declared.entry.DbEntry.{DbEntry}
+use Rattle.cg_action.specs.declared.entry.DbEntry.{DbEntry}
 use Rattle.cg_db.specs.Map.{put}
 
 -- the database that has the entries, of which the first counts where a key stands twice

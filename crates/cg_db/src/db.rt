@@ -8,14 +8,13 @@ ghost use Rattle.cg_db.specs.Ascending.{Ascends};
 ghost use Rattle.cg_db.specs.Apply.{Changed, run_commands};
 ghost use Rattle.cg_db.specs.View.{of_entries, entry_at};
 ghost use Rattle.cg_db.specs.Plan.{listed, changed, with_changes};
-ghost use Rattle.cg_answer.specs.declared.entry.DbEntry.{DbEntry};
+ghost use Rattle.cg_action.specs.declared.entry.DbEntry.{DbEntry};
 ghost use Rattle.cg_action.specs.declared.command.Cmd.TheVariants.{Put, Inc};
 ghost use Rattle.cg_action.specs.ActionLimits.{IsAction, IsCommand};
 
 use crate::changes::{Changes, KeyChange};
 use crate::plan::plan;
-use cg_action::{Action, Cmd, Kind, Query, Value};
-use cg_answer::{Answer, DbEntry, Effect, EntryList, TxtList};
+use cg_action::{Action, Answer, Cmd, DbEntry, Effect, EntryList, Kind, Query, TxtList, Value};
 use cg_base::{NoMemory, Row};
 use cg_text::Txt;
 use indexmap::IndexMap;
@@ -38,7 +37,7 @@ impl Drop for Db {
 
 impl Model for Db {
     ghost use Rattle.std.specs.Prelude.{List};
-    ghost use Rattle.cg_answer.specs.declared.entry.DbEntry.{DbEntry};
+    ghost use Rattle.cg_action.specs.declared.entry.DbEntry.{DbEntry};
     ghost use Rattle.cg_db.specs.View.{of_entries};
 
     ghost Value = { List DbEntry };

@@ -1,7 +1,7 @@
 ghost use Rattle.std.specs.Prelude.{List, All};
 ghost use Rattle.cg_action.specs.declared.action.Action.{Action};
 ghost use Rattle.cg_action.specs.ActionLimits.{IsAction};
-ghost use Rattle.cg_answer.specs.declared.entry.DbEntry.{DbEntry};
+ghost use Rattle.cg_action.specs.declared.entry.DbEntry.{DbEntry};
 ghost use Rattle.cg_db.specs.Limits.{AreEntries};
 ghost use Rattle.cg_db.specs.Apply.{apply, fold_actions};
 

@@ -10,8 +10,7 @@ ghost use Rattle.cg_db.specs.Plan.{listed, set_option, with_changes, ran, left_b
 
 use crate::Db;
 use crate::changes::{Changes, KeyChange};
-use cg_action::{Boxed, BoxedOption, Cmd, Value};
-use cg_answer::Effect;
+use cg_action::{Boxed, BoxedOption, Cmd, Effect, Value};
 use cg_base::NoMemory;
 use cg_text::Txt;
 

@@ -20,7 +20,7 @@ use Rattle.cg_action.specs.ActionLimits.{IsAction}
 use Rattle.cg_queue.specs.Distinct.{is_distinct}
 use Rattle.cg_queue.specs.Queue.{green_count, names_of}
 use Rattle.cg_client.specs.Replica.{last_index, created}
-use Rattle.cg_parts.specs.OwnLaws.{last_index-get}
+use Rattle.cg_client.specs.OwnLaws.{last_index-get}
 use Rattle.cg_records.specs.Limits.{Each, IsIndex, IsName}
 use Rattle.cg_disk_records.specs.declared.checkpoint.Checkpoint.{Checkpoint}
 use Rattle.cg_disk_records.specs.Limits.{AreParts}

@@ -8,7 +8,7 @@ use Rattle.cg_codec.specs.FieldLaws.{field_bind, field_map, field_whole}
 use Rattle.cg_codec.specs.ShapeLaws.{field_three}
 use Rattle.cg_action.specs.declared.action.Action.{Action}
 use Rattle.cg_action.specs.Bytes.{spelled_action}
-use Rattle.cg_answer.specs.declared.entry.DbEntry.{DbEntry}
+use Rattle.cg_action.specs.declared.entry.DbEntry.{DbEntry}
 use Rattle.cg_members.specs.Members.{Members}
 use Rattle.cg_records.specs.declared.stable.Stable.{Stable}
 use Rattle.cg_records.specs.Limits.{IsNumber, IsSmallCut, IsStable}

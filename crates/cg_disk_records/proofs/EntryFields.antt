@@ -22,7 +22,7 @@ use Rattle.cg_action.specs.ActionLimits.{IsKey, IsValue}
 use Rattle.cg_action.specs.Bytes.{spelled_value}
 use Rattle.cg_action.specs.Reading.{is_key, key_reading, value_reading}
 use Rattle.cg_action.specs.ValueLaws.{key_field, value_field}
-use Rattle.cg_answer.specs.declared.entry.DbEntry.{DbEntry}
+use Rattle.cg_action.specs.declared.entry.DbEntry.{DbEntry}
 use Rattle.cg_db.specs.Map.{value_of, put, keys}
 use Rattle.cg_db.specs.Ascending.{IsBefore, Ascends}
 use Rattle.cg_db.specs.Limits.{AreEntries}

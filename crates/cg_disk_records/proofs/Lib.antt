@@ -8,3 +8,6 @@ mod Agreeing
 mod Counting
 mod StandingLaws
 mod Generations
+mod Settling
+mod Opening
+mod Always

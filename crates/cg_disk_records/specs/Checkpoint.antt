@@ -3,7 +3,7 @@ use Rattle.std.specs.Prelude.{ℕ, ◌+◌, List, ◌++◌, length}
 use Rattle.cg_disk_records.specs.declared.limits.TheConstants.{CHECKPOINT_BYTES}
 use Rattle.cg_codec.specs.Fields.{byte, number64, text, list}
 use Rattle.cg_action.specs.Bytes.{spelled_action, spelled_value}
-use Rattle.cg_answer.specs.declared.entry.DbEntry.{DbEntry}
+use Rattle.cg_action.specs.declared.entry.DbEntry.{DbEntry}
 use Rattle.cg_members.specs.declared.server.Server.{Server}
 use Rattle.cg_queue.specs.Queue.{green_count}
 use Rattle.cg_records.specs.Bytes.{spelled_set, spelled_cut, spelled_stable}

@@ -9,3 +9,15 @@ pub mod Parts
 pub mod Kept
 pub mod NameLaws
 pub mod Laws
+pub mod Holds
+pub mod CutRaiseLaws
+pub mod RunLaws
+pub mod RunMarkLaws
+pub mod HeldLaws
+pub mod HoldsMarkLaws
+pub mod HoldsValueLaws
+pub mod KnownLaws
+pub mod ValueLaws
+pub mod Always
+pub mod Commit
+pub mod Crash

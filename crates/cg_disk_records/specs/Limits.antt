@@ -4,7 +4,7 @@ use Rattle.cg_base.specs.declared.limits.TheConstants.{LIST_LIMIT}
 use Rattle.cg_base.specs.Sets.{IsId, IsSet}
 use Rattle.cg_action.specs.declared.action.Action.{Action}
 use Rattle.cg_action.specs.ActionLimits.{IsAction, IsActionId}
-use Rattle.cg_answer.specs.declared.entry.DbEntry.{DbEntry}
+use Rattle.cg_action.specs.declared.entry.DbEntry.{DbEntry}
 use Rattle.cg_db.specs.Ascending.{Ascends}
 use Rattle.cg_db.specs.Limits.{AreEntries}
 use Rattle.cg_members.specs.Members.{Members}

@@ -6,7 +6,7 @@ use Rattle.cg_codec.specs.Reading.{Reading, ◌>>=◌, done, only, take_list}
 use Rattle.cg_text.specs.Order.{text_before}
 use Rattle.cg_action.specs.declared.action.Action.{Action}
 use Rattle.cg_action.specs.Reading.{id_reading, key_reading, value_reading, action_reading}
-use Rattle.cg_answer.specs.declared.entry.DbEntry.{DbEntry}
+use Rattle.cg_action.specs.declared.entry.DbEntry.{DbEntry}
 use Rattle.cg_members.specs.declared.server.Server.{Server}
 use Rattle.cg_members.specs.Members.{Members}
 use Rattle.cg_members.specs.Listed.{server_ids}

@@ -4,7 +4,7 @@ use Rattle.cg_disk.specs.View.{DiskView}
 use Rattle.cg_client.specs.declared.parts.DraftParts.{DraftParts}
 use Rattle.cg_client.specs.Drafts.{turn_with}
 use Rattle.cg_client.specs.Replica.{Held, Replica}
-use Rattle.cg_commit.specs.Commit.{commits}
+use Rattle.cg_disk_records.specs.Commit.{commits}
 use Rattle.cg_store.specs.Answers.{EachMoment}
 use Rattle.cg_base.specs.Choice.{Either}
 use Rattle.cg_store.specs.Calls.{Commits, Keeps, IsEither}

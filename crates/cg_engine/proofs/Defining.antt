@@ -15,8 +15,8 @@ use Rattle.cg_queue.specs.Queue.{green_count}
 use Rattle.cg_client.specs.Replica.{Held}
 use Rattle.cg_client.specs.Turn.{Turn}
 use Rattle.cg_disk_records.specs.Checkpoint.{size_limit}
-use Rattle.cg_commit.specs.Commit.{commits}
-use Rattle.cg_commit.specs.Crash.{Strike, Disk, EventEnd, Runs, Crashes, with_change, with_checkpoint, calls_of, checkpointed as with_long, is_committed, is_checkpointed, at_rest, crash_outcome, whitened, struck, commit_under, end_event}
+use Rattle.cg_disk_records.specs.Commit.{commits}
+use Rattle.cg_disk_records.specs.Crash.{Strike, Disk, EventEnd, Runs, Crashes, with_change, with_checkpoint, calls_of, checkpointed as with_long, is_committed, is_checkpointed, at_rest, crash_outcome, whitened, struck, commit_under, end_event}
 use Rattle.cg_store.specs.Answers.{IsLost}
 use Rattle.cg_store.specs.Calls.{Commits, EndsLong}
 use Rattle.cg_store.specs.Defined.{strike_at, EndsAsDefined as StrikesEndAsDefined}

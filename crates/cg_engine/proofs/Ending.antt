@@ -12,9 +12,9 @@ use Rattle.cg_client.specs.Turn.{Turn}
 use Rattle.cg_client.specs.Calls.{IsLineGreen}
 use Rattle.cg_disk_records.specs.Stored.{whiten}
 use Rattle.cg_disk_records.specs.Checkpoint.{size_limit}
-use Rattle.cg_commit.specs.Commit.{commits}
-use Rattle.cg_commit.specs.Crash.{whitened}
-use Rattle.cg_replica_step.specs.Following.{Follows}
+use Rattle.cg_disk_records.specs.Commit.{commits}
+use Rattle.cg_disk_records.specs.Crash.{whitened}
+use Rattle.cg_model.specs.Following.{Follows}
 use Rattle.cg_store.specs.Answers.{IsRefused, EachMoment}
 use Rattle.cg_store.specs.Calls.{Commits, Keeps, EndsWritten, IsEither, IsOneOfThree, paired}
 use Rattle.cg_store.specs.EndingLaws.{commit_stands, commit_is_written, keep_stands, keep_is_not_written, ends_long, ends_short, ends_failed, event_moments}

@@ -5,12 +5,12 @@ use Rattle.cg_action.specs.declared.action.Action.{Action}
 use Rattle.cg_client.specs.Replica.{Held, Replica}
 use Rattle.cg_disk_records.specs.Stored.{Stored, stored_of, whiten, recovery_turn}
 use Rattle.cg_disk_records.specs.Following.{IsAhead}
-use Rattle.cg_commit.specs.Crash.{Disk}
-use Rattle.cg_replica_step.specs.Following.{Follows}
-use Rattle.cg_commit.specs.Holds.{Holds}
-use Rattle.cg_commit.specs.Always.{AlwaysHolds, AlwaysCounts, AlwaysSettled}
-use Rattle.cg_replica_step.specs.Recorded.{AlwaysKept, AlwaysRecorded, AlwaysAhead, AreBooked}
-use Rattle.cg_replica_step.specs.Step.{Input, replica_step}
+use Rattle.cg_disk_records.specs.Crash.{Disk}
+use Rattle.cg_model.specs.Following.{Follows}
+use Rattle.cg_disk_records.specs.Holds.{Holds}
+use Rattle.cg_disk_records.specs.Always.{AlwaysHolds, AlwaysCounts, AlwaysSettled}
+use Rattle.cg_model.specs.Recorded.{AlwaysKept, AlwaysRecorded, AlwaysAhead, AreBooked}
+use Rattle.cg_model.specs.ReplicaStep.{Input, replica_step}
 use Rattle.cg_store.specs.Opening.{IsSound}
 use Rattle.cg_store.specs.Stands.{OnDisk, disk_of, committed, checkpointed}
 use Rattle.cg_engine.specs.Ending.{MayEnd}

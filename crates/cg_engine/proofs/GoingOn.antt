@@ -5,8 +5,8 @@ use Rattle.cg_client.specs.Replica.{Held, Replica}
 use Rattle.cg_client.specs.Calls.{IsLineGreen}
 use Rattle.cg_disk_records.specs.Stored.{whiten}
 use Rattle.cg_disk_records.specs.Checkpoint.{size_limit}
-use Rattle.cg_commit.specs.Crash.{whitened}
-use Rattle.cg_replica_step.specs.Following.{Follows}
+use Rattle.cg_disk_records.specs.Crash.{whitened}
+use Rattle.cg_model.specs.Following.{Follows}
 use Rattle.cg_store.specs.Answers.{EachMoment}
 use Rattle.cg_base.specs.Choice.{Either}
 use Rattle.cg_store.specs.Calls.{Moves, IsEither}

@@ -8,9 +8,9 @@ use Rattle.cg_queue.specs.Queue.{green_count}
 use Rattle.cg_client.specs.Replica.{Held}
 use Rattle.cg_client.specs.Turn.{Turn}
 use Rattle.cg_disk_records.specs.Stored.{recovery_turn}
-use Rattle.cg_replica_step.specs.Following.{Follows}
-use Rattle.cg_commit.specs.Always.{AlwaysHolds, AlwaysCounts, AlwaysSettled}
-use Rattle.cg_replica_step.specs.Recorded.{AlwaysRecorded, AlwaysAhead}
+use Rattle.cg_model.specs.Following.{Follows}
+use Rattle.cg_disk_records.specs.Always.{AlwaysHolds, AlwaysCounts, AlwaysSettled}
+use Rattle.cg_model.specs.Recorded.{AlwaysRecorded, AlwaysAhead}
 use Rattle.cg_store.specs.StoreState.{StoreState}
 use Rattle.cg_store.specs.Opening.{IsOpened}
 use Rattle.cg_store.specs.Stands.{Stands, disk_of}

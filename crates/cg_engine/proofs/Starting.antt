@@ -10,8 +10,8 @@ use Rattle.cg_client.specs.Replica.{Held, fresh_held}
 use Rattle.cg_client.specs.Whitening.{line_of}
 use Rattle.cg_disk_records.specs.Stored.{stored_of, whiten}
 use Rattle.cg_disk_records.specs.Agreeing.{Agrees}
-use Rattle.cg_replica_step.specs.Following.{Follows}
-use Rattle.cg_commit.specs.Always.{AlwaysHolds, AlwaysCounts, AlwaysSettled}
+use Rattle.cg_model.specs.Following.{Follows}
+use Rattle.cg_disk_records.specs.Always.{AlwaysHolds, AlwaysCounts, AlwaysSettled}
 use Rattle.cg_store.specs.Answers.{IsReached}
 use Rattle.cg_store.specs.StoreState.{StoreState}
 use Rattle.cg_store.specs.Stands.{Stands, created, disk_of}

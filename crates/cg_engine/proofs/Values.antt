@@ -13,7 +13,7 @@ use Rattle.cg_client.specs.Turn.{Turn}
 use Rattle.cg_client.specs.Marks.{after_first}
 use Rattle.cg_disk_records.specs.Stored.{Stored, stored_of}
 use Rattle.cg_disk_records.specs.Following.{fits_known, know, all_of, IsAhead}
-use Rattle.cg_commit.specs.Commit.{same_values, commits}
+use Rattle.cg_disk_records.specs.Commit.{same_values, commits}
 
 -- both have these values
 record HaveOne (s t : Held) : Type 0 where

@@ -13,8 +13,8 @@ use Rattle.cg_client.specs.declared.parts.DraftParts.{DraftParts}
 use Rattle.cg_client.specs.Replica.{Replica, fresh_held, fresh}
 use Rattle.cg_client.specs.Turn.{Turn}
 use Rattle.cg_disk_records.specs.Stored.{recovery_turn}
-use Rattle.cg_commit.specs.Commit.{commits}
-use Rattle.cg_commit.specs.Crash.{whitened}
+use Rattle.cg_disk_records.specs.Commit.{commits}
+use Rattle.cg_disk_records.specs.Crash.{whitened}
 use Rattle.cg_store.specs.Answers.{IsReached, EachMoment}
 use Rattle.cg_store.specs.Calls.{Keeps, EndsWritten, IsOneOfThree}
 use Rattle.cg_store.specs.StoreState.{StoreState}

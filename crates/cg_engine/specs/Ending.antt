@@ -10,9 +10,9 @@ use Rattle.cg_disk_records.specs.Stored.{stored_of, whiten, recovery_turn}
 use Rattle.cg_disk_records.specs.Following.{IsRecorded}
 use Rattle.cg_disk_records.specs.Agreeing.{Agrees}
 use Rattle.cg_disk_records.specs.Checkpoint.{size_limit}
-use Rattle.cg_commit.specs.Commit.{commits}
-use Rattle.cg_commit.specs.Crash.{whitened}
-use Rattle.cg_replica_step.specs.Following.{Follows}
+use Rattle.cg_disk_records.specs.Commit.{commits}
+use Rattle.cg_disk_records.specs.Crash.{whitened}
+use Rattle.cg_model.specs.Following.{Follows}
 use Rattle.cg_store.specs.Answers.{EachMoment}
 use Rattle.cg_base.specs.Choice.{Either}
 use Rattle.cg_store.specs.Calls.{Moves, IsEither}

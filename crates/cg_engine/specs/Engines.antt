@@ -5,7 +5,7 @@ use Rattle.cg_action.specs.declared.action.Action.{Action}
 use Rattle.cg_disk.specs.View.{DiskView}
 use Rattle.cg_queue.specs.Queue.{green_count}
 use Rattle.cg_client.specs.Replica.{Held, Replica}
-use Rattle.cg_replica_step.specs.Following.{Follows}
+use Rattle.cg_model.specs.Following.{Follows}
 use Rattle.cg_store.specs.StoreState.{StoreState}
 use Rattle.cg_store.specs.Stands.{OnDisk, Stands, disk_of}
 

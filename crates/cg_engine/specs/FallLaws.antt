@@ -4,7 +4,7 @@ use Rattle.cg_disk.specs.View.{DiskView}
 use Rattle.cg_client.specs.declared.parts.DraftParts.{DraftParts}
 use Rattle.cg_client.specs.Turn.{Turn}
 use Rattle.cg_disk_records.specs.Checkpoint.{size_limit}
-use Rattle.cg_commit.specs.Commit.{commits}
+use Rattle.cg_disk_records.specs.Commit.{commits}
 use Rattle.cg_store.specs.Answers.{IsLost}
 use Rattle.cg_base.specs.Choice.{Either}
 use Rattle.cg_store.specs.Calls.{Commits, Keeps, EndsLong, EndsWritten}

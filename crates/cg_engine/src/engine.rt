@@ -16,10 +16,10 @@ use crate::wreck::LastEvent;
 use crate::{Handled, Recovered, Started, Wreck};
 use cg_base::{IdList, ReplicaId, Row, WeightSet};
 use cg_client::{Core, Draft};
-use cg_commit::what_is_held_agrees;
 use cg_disk::{Disk, ModelDisk};
+use cg_disk_records::what_is_held_agrees;
+use cg_model::{each_commit_is_recorded, each_event_keeps_what_holds};
 use cg_replica::{Input, Replica};
-use cg_replica_step::{each_commit_is_recorded, each_event_keeps_what_holds};
 use cg_report::StateName;
 use cg_store::{CommitErr, OpenErr, Outputs, Store};
 use std::alloc::Global;
@@ -99,9 +99,9 @@ fn told(alloc: Global, last: LastEvent, more: bool) -> IdList
 }
 
 impl<D: Disk> Engine<D> {
-    ghost use Rattle.cg_replica_step.specs.Recorded.{AreBooked};
-    ghost use Rattle.cg_replica_step.specs.Step.{replica_step};
-    ghost use Rattle.cg_commit.specs.Commit.{commits};
+    ghost use Rattle.cg_model.specs.Recorded.{AreBooked};
+    ghost use Rattle.cg_model.specs.ReplicaStep.{replica_step};
+    ghost use Rattle.cg_disk_records.specs.Commit.{commits};
     ghost use Rattle.cg_disk.specs.View.{IsAtRest};
     ghost use Rattle.cg_store.specs.Stands.{OnDisk, Stands};
     ghost use Rattle.cg_engine.specs.Engines.{IsEngine};

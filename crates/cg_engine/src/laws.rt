@@ -1,8 +1,8 @@
 ghost use Rattle.cg_engine.specs.Defined.{HandlesAsDefined};
 
-use cg_commit::what_is_held_agrees;
 use cg_disk::{Disk, ModelDisk};
-use cg_replica_step::each_event_keeps_what_holds;
+use cg_disk_records::what_is_held_agrees;
+use cg_model::each_event_keeps_what_holds;
 use cg_store::strikes_end_as_defined;
 
 /// On a disk in memory an engine's event ends as the definitions of a step say, whatever strikes: with the replica behind

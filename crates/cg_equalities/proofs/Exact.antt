@@ -17,7 +17,7 @@ use Rattle.cg_records.specs.contracts.yellow.YellowPartialEq.TheImpl.{ghosts as 
 use Rattle.cg_records.specs.contracts.yellow.YellowEq.TheImpl.Laws.{laws-law as yellow_equals}
 use Rattle.cg_report.specs.declared.line.Line.{Line}
 use Rattle.cg_report.specs.contracts.line.LinePartialEq.TheImpl.{ghosts as line}
-use Rattle.cg_commit.specs.ValueLaws.{one-prim, one-vulnerable, one-yellow}
+use Rattle.cg_disk_records.specs.ValueLaws.{one-prim, one-vulnerable, one-yellow}
 use Rattle.cg_equalities.specs.LineLaws.{one-line, self-line}
 
 -- an equality that holds of one value alone, and of each value and itself

@@ -24,7 +24,7 @@ use Rattle.cg_report.specs.contracts.line.ViewPartialEq.TheImpl.{ghosts as view}
 use Rattle.cg_report.specs.contracts.line.UpLinePartialEq.TheImpl.{ghosts as up_line}
 use Rattle.cg_report.specs.contracts.line.LinePartialEq.TheImpl.{ghosts as line}
 use Rattle.cg_report.specs.contracts.line.LineEq.TheImpl.Laws.{laws-law}
-use Rattle.cg_commit.specs.ValueLaws.{one-list, one-number, one-prim, one-record, one-yellow}
+use Rattle.cg_disk_records.specs.ValueLaws.{one-list, one-number, one-prim, one-record, one-yellow}
 
 place : StateName → ℕ
 place a = tag_of (declared enum) a

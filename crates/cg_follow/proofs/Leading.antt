@@ -6,7 +6,7 @@ use Rattle.std.proofs.lemmas.List.{length-append}
 use Rattle.std.proofs.lemmas.List.Sums.{fold-append}
 use Rattle.cg_disk_records.specs.Parts.{read_value}
 use Rattle.cg_action.specs.declared.action.Action.{Action}
-use Rattle.cg_answer.specs.declared.entry.DbEntry.{DbEntry}
+use Rattle.cg_action.specs.declared.entry.DbEntry.{DbEntry}
 use Rattle.cg_db.specs.Apply.{apply}
 use Rattle.cg_follow.specs.Followed.{Followed, fed, applied, IsFollowed, AreFed}
 use Rattle.cg_follow.specs.Bytes.{spelled_follower, spelled_feed, follower_in, feed_in}

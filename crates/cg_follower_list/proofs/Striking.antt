@@ -2,7 +2,7 @@
 use Rattle.std.proofs.Common.{◌≡◌, ℕ, ◌-◌, ◌≤◌, true, false, List, [], ◌∷◌, Option, Some, refl, sym, ap, subst, ◌∙◌, arith}
 use Rattle.std.proofs.lemmas.Bool.Decides.{nat_tests}
 use Rattle.std.specs.Prelude.{nat_le, nat_lt, unwrap_or, option_map, option_and_then, if◌then◌else◌}
-use Rattle.cg_commit.specs.Crash.{is_committed}
+use Rattle.cg_disk_records.specs.Crash.{is_committed}
 use Rattle.cg_disk.specs.Crashes.{IsCrashed}
 use Rattle.cg_disk.specs.Sides.{Image}
 use Rattle.cg_disk.specs.State.{Blow, Fails, Stops, DiskStrike, DiskState, left_by}

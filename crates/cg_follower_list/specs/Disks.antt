@@ -1,6 +1,6 @@
 -- The disks of followers, while these are up and while they are down.
 use Rattle.std.specs.Prelude.{◌≡◌, ℕ, ◌-◌, List, [], Option, None, IfSome, option_map, option_and_then, unwrap_or}
-use Rattle.cg_commit.specs.Crash.{Fault, FailOnce, StopWith, Strike}
+use Rattle.cg_disk_records.specs.Crash.{Fault, FailOnce, StopWith, Strike}
 use Rattle.cg_disk.specs.Sides.{Image}
 use Rattle.cg_disk.specs.State.{Blow, Fails, Stops, DiskStrike}
 use Rattle.cg_disk.specs.View.{DiskView}

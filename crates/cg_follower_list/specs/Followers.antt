@@ -8,7 +8,7 @@ use Rattle.cg_queue.specs.Queue.{QueueView, green_count}
 use Rattle.cg_group.specs.declared.reason.Reason.{Reason}
 use Rattle.cg_group.specs.declared.reason.Reason.TheVariants.{Discarded, WouldGoBack, UnknownFollower, FollowerDown, FollowerUp}
 use Rattle.cg_group.specs.Refusals.{refuse}
-use Rattle.cg_commit.specs.Crash.{Strike, StopWith, is_committed}
+use Rattle.cg_disk_records.specs.Crash.{Strike, StopWith, is_committed}
 use Rattle.cg_follow.specs.Followed.{Followed, fed}
 use Rattle.cg_follower_list.specs.declared.follow_line.FollowLine.{FollowLine}
 use Rattle.cg_follower_list.specs.declared.follow_line.FollowLine.TheVariants.{At, Down, Weak as Answers}

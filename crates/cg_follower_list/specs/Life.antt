@@ -1,6 +1,6 @@
 -- A follower of a run, as what its disk stands for.
 use Rattle.std.specs.Prelude.{ℕ, Option}
-use Rattle.cg_commit.specs.Crash.{Strike}
+use Rattle.cg_disk_records.specs.Crash.{Strike}
 use Rattle.cg_follow.specs.Followed.{Followed}
 
 -- a follower is up, with the stop that is armed on its disk; or it is down, and its disk stands for this

@@ -1,6 +1,6 @@
 -- The text of the lines of followers, without their ends.
 use Rattle.std.specs.Prelude.{ℕ, List, ◌++◌, codes, decimal}
-use Rattle.cg_answer.specs.Print.{answer_text}
+use Rattle.cg_action.specs.AnswerPrint.{answer_text}
 use Rattle.cg_follower_list.specs.declared.follow_line.FollowLine.{FollowLine}
 use Rattle.cg_follower_list.specs.declared.follow_line.FollowLine.TheVariants as follow
 

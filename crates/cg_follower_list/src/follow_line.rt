@@ -1,4 +1,4 @@
-use cg_answer::Answer;
+use cg_action::Answer;
 
 /// A line that speaks of the follower `f`.
 pub enum FollowLine {

@@ -2,7 +2,7 @@
 
 ghost use Rattle.std.specs.Prelude.{◌≡◌, ◌≤◌, None, Some, IfOk, IfSome};
 ghost use Rattle.cg_action.specs.ActionLimits.{IsAction};
-ghost use Rattle.cg_commit.specs.Crash.{StopWith};
+ghost use Rattle.cg_disk_records.specs.Crash.{StopWith};
 ghost use Rattle.cg_db.specs.Limits.{AreEntries};
 ghost use Rattle.cg_disk.specs.Model.{state_of};
 ghost use Rattle.cg_disk.specs.State.{left_by};
@@ -15,8 +15,7 @@ ghost use Rattle.cg_follower_list.specs.Seen.{seen};
 
 use crate::fallen_disk::FallenDisk;
 use crate::follower_state::FollowerState;
-use cg_action::{ActionList, Query};
-use cg_answer::Answer;
+use cg_action::{ActionList, Answer, Query};
 use cg_base::{Bytes, COUNT_LIMIT, NoMemory, Row};
 use cg_db::Db;
 use cg_disk::{Disk, ModelDisk};

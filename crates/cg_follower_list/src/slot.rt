@@ -12,8 +12,7 @@ ghost use Rattle.cg_follower_list.specs.Turning.{line_between, next_shown, Turns
 
 use crate::FollowLine;
 use crate::follower_state::FollowerState;
-use cg_action::Query;
-use cg_answer::Answer;
+use cg_action::{Answer, Query};
 use cg_base::{Bytes, NoMemory};
 use cg_queue::Queue;
 use std::alloc::Global;

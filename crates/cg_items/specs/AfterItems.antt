@@ -2,7 +2,7 @@
 use Rattle.std.specs.Prelude.{◌≡◌, ℕ, List, ◌∷◌, ◌++◌}
 use Rattle.cg_base.specs.declared.action_id.ActionId.{ActionId}
 use Rattle.cg_action.specs.declared.query.Query.{Query}
-use Rattle.cg_answer.specs.declared.answer.Answer.{Answer}
+use Rattle.cg_action.specs.declared.answer.Answer.{Answer}
 use Rattle.cg_db.specs.Apply.{fold_actions}
 use Rattle.cg_db.specs.Find.{answer}
 use Rattle.cg_model.specs.World.{World, no_world}

@@ -6,7 +6,7 @@ use Rattle.cg_base.specs.Lists.{first_some, present}
 use Rattle.cg_group.specs.declared.reason.Reason.{Reason}
 use Rattle.cg_group.specs.declared.reason.Reason.TheVariants.{Discarded, WouldGoBack, UnknownFollower, FollowerDown, FollowerUp}
 use Rattle.cg_group.specs.Refusals.{refuse}
-use Rattle.cg_commit.specs.Crash.{Strike, StopWith, is_committed}
+use Rattle.cg_disk_records.specs.Crash.{Strike, StopWith, is_committed}
 use Rattle.cg_model.specs.World.{no_world}
 use Rattle.cg_model.specs.Admission.{takes_part}
 use Rattle.cg_model.specs.Shown.{ordered_actions, white_of}

@@ -7,7 +7,7 @@ use Rattle.cg_base.specs.Lists.{first_some, present}
 use Rattle.cg_action.specs.declared.action.Kind.TheVariants.{Update}
 use Rattle.cg_action.specs.declared.command.Cmd.{Cmd}
 use Rattle.cg_action.specs.declared.query.Query.{Query}
-use Rattle.cg_answer.specs.declared.answer.Answer.{Answer}
+use Rattle.cg_action.specs.declared.answer.Answer.{Answer}
 use Rattle.cg_group.specs.declared.reason.Reason.{Reason}
 use Rattle.cg_group.specs.declared.reason.Reason.TheVariants.{UnknownSession, SessionUsed}
 use Rattle.cg_group.specs.Refusals.{refuse}

@@ -1,0 +1,4 @@
+pub mod SessionsLaw
+pub mod FollowersLaw
+pub mod EveryRelaxed
+pub mod ShownLogs

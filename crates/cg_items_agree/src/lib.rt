@@ -1,11 +1,17 @@
-//! What all items of a run agree on, command by command: sessions, followers, the relaxed database, and the logs that its
-//! steps show.
+//! What all items of a run agree on: the sessions, the followers, the relaxed database, and the logs that its steps show.
 //!
-//! One law over all words, all bytes that a run may take, and all ways in which the taking may end. It puts together the
-//! laws of `cg_sessions_agree`, `cg_followers_agree`, `cg_relaxed_agree` and `cg_logs_agree`, which speak of the items of
-//! any run, and that what words come to are such items (`outcomes_agree` of `cg_outcome`).
+//! The statements stand with what the items of a run are (`cg_items`). They are proved here, each from what the run's steps
+//! agree on: each session reads prefixes of the one order that never get shorter, and holds all that it wrote and was told
+//! of; each follower is a prefix of that order; relaxed queries show what the known actions make; the logs are parts of the
+//! one order.
 #![tactic(auto)]
 
-mod laws;
+mod followers;
+mod logs;
+mod relaxed;
+mod sessions;
 
-pub use laws::items_agree;
+pub use followers::followers_agree;
+pub use logs::shown_logs_agree;
+pub use relaxed::relaxed_agree;
+pub use sessions::sessions_agree;

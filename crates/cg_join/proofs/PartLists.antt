@@ -4,7 +4,7 @@ use Rattle.std.specs.Prelude.{◌-◌, slice_get, IfSome, IfOk, Some, Result, Ok
 use Rattle.std.specs.Option.{option_map}
 use Rattle.std.proofs.lemmas.List.{length-map}
 use Rattle.cg_action.specs.declared.action.Action.{Action}
-use Rattle.cg_answer.specs.declared.entry.DbEntry.{DbEntry}
+use Rattle.cg_action.specs.declared.entry.DbEntry.{DbEntry}
 use Rattle.cg_client.specs.Replica.{Held}
 use Rattle.cg_records.specs.Limits.{Each}
 use Rattle.cg_join.specs.declared.name.SnapshotName.{SnapshotName}

@@ -14,7 +14,7 @@ use Rattle.cg_action.specs.ActionLimits.{IsAction, IsKey, IsValue}
 use Rattle.cg_action.specs.Bytes.{spelled_action, spelled_value}
 use Rattle.cg_action.specs.Reading.{key_reading, value_reading, action_reading}
 use Rattle.cg_action.specs.ValueLaws.{key_field, value_field}
-use Rattle.cg_answer.specs.declared.entry.DbEntry.{DbEntry}
+use Rattle.cg_action.specs.declared.entry.DbEntry.{DbEntry}
 use Rattle.cg_db.specs.Limits.{IsEntry}
 use Rattle.cg_records.specs.declared.primary.Primary.{Primary}
 use Rattle.cg_records.specs.Limits.{IsNumber, IsPrimary}

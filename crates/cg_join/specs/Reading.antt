@@ -2,7 +2,7 @@
 use Rattle.std.specs.Prelude.{ℕ, ◌==◌, if◌then◌else◌}
 use Rattle.cg_codec.specs.Reading.{Reading, ◌>>=◌, done, byte_between}
 use Rattle.cg_action.specs.Reading.{key_reading, value_reading, action_reading}
-use Rattle.cg_answer.specs.declared.entry.DbEntry.{DbEntry}
+use Rattle.cg_action.specs.declared.entry.DbEntry.{DbEntry}
 use Rattle.cg_records.specs.Reading.{take_number, take_id_above, take_prim}
 use Rattle.cg_disk_records.specs.Reading.{reached_reading}
 use Rattle.cg_join.specs.declared.name.SnapshotName.{SnapshotName}

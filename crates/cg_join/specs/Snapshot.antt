@@ -2,7 +2,7 @@
 use Rattle.std.specs.Prelude.{ℕ, ◌-◌, false, List, [], ◌∷◌, ◌++◌, length, map, slice_get, Option, None}
 use Rattle.std.specs.Option.{option_map}
 use Rattle.cg_action.specs.declared.action.Action.{Action}
-use Rattle.cg_answer.specs.declared.entry.DbEntry.{DbEntry}
+use Rattle.cg_action.specs.declared.entry.DbEntry.{DbEntry}
 use Rattle.cg_client.specs.Replica.{Held}
 use Rattle.cg_disk_records.specs.Checkpoint.{reached_of}
 use Rattle.cg_join.specs.declared.name.SnapshotName.{SnapshotName}

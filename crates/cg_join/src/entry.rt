@@ -7,8 +7,7 @@ ghost use Rattle.cg_db.specs.Limits.{IsEntry};
 ghost use Rattle.cg_disk_records.specs.Checkpoint.{spelled_entry};
 ghost use Rattle.cg_join.specs.Reading.{any_entry_reading};
 
-use cg_action::{put_value, take_value};
-use cg_answer::DbEntry;
+use cg_action::{DbEntry, put_value, take_value};
 use cg_base::NoMemory;
 use cg_codec::{CodecFault, Fields, put_text};
 use cg_text::Txt;

@@ -1,6 +1,5 @@
 use crate::SnapshotName;
-use cg_action::{Action, Boxed};
-use cg_answer::DbEntry;
+use cg_action::{Action, Boxed, DbEntry};
 use cg_disk_records::Reached;
 use cg_records::Primary;
 

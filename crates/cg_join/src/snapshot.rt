@@ -11,8 +11,7 @@ ghost use Rattle.cg_join.specs.Snapshot.{head_of, parts_of, with_green_part, wit
 use crate::piece_contents::PieceContents;
 use crate::writing::encode;
 use crate::{Head, Label, PieceContent, SnapshotName};
-use cg_action::{ActionList, Boxed};
-use cg_answer::EntryList;
+use cg_action::{ActionList, Boxed, EntryList};
 use cg_base::{Bytes, NoMemory};
 use cg_client::Core;
 use cg_disk_records::Reached;

@@ -1,7 +1,6 @@
 ghost use Rattle.cg_action.specs.ActionLimits.{IsCommand};
 
-use cg_action::{Action, Cmd, CmdList, Kind, Value};
-use cg_answer::Effect;
+use cg_action::{Action, Cmd, CmdList, Effect, Kind, Value};
 use cg_base::{ActionId, NoMemory, ReplicaId};
 use cg_db::Db;
 use cg_text::Txt;

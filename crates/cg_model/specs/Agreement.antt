@@ -8,7 +8,7 @@ use Rattle.cg_base.specs.Lists.{count_up, greatest}
 use Rattle.cg_base.specs.Sets.{has}
 use Rattle.cg_action.specs.declared.action.Action.{Action}
 use Rattle.cg_action.specs.declared.query.Query.{Query}
-use Rattle.cg_answer.specs.declared.entry.DbEntry.{DbEntry}
+use Rattle.cg_action.specs.declared.entry.DbEntry.{DbEntry}
 use Rattle.cg_db.specs.Apply.{apply, fold_actions}
 use Rattle.cg_db.specs.Find.{answer, query_of}
 use Rattle.cg_members.specs.Servers.{members_of, is_server}
@@ -19,7 +19,7 @@ use Rattle.cg_report.specs.declared.entry.Shown.TheVariants.{Weak as ShownWeak, 
 use Rattle.cg_report.specs.declared.line.Line.{Line}
 use Rattle.cg_report.specs.declared.line.StateName.TheVariants.{RegPrim, TransPrim}
 use Rattle.cg_report.specs.declared.line.UpLine.{UpLine}
-use Rattle.cg_commit.specs.Crash.{Disk}
+use Rattle.cg_disk_records.specs.Crash.{Disk}
 use Rattle.cg_model.specs.World.{Down, no_world, has_begun, life_of, replica_of}
 use Rattle.cg_client.specs.Replica.{Replica}
 use Rattle.cg_queue.specs.Queue.{QueueView, green_count, names_of}

@@ -10,8 +10,8 @@ use Rattle.cg_wire.specs.declared.message.Msg.{Msg}
 use Rattle.cg_group.specs.EachLaws.{Each}
 use Rattle.cg_group.specs.State.{configuration, unordered_of}
 use Rattle.cg_client.specs.Replica.{Held, created}
-use Rattle.cg_commit.specs.Holds.{Rising}
-use Rattle.cg_replica_step.specs.Recorded.{OfMessage}
+use Rattle.cg_disk_records.specs.Holds.{Rising}
+use Rattle.cg_model.specs.Recorded.{OfMessage}
 use Rattle.cg_model.specs.World.{NodeState, Up, Down, Node, World, replica_of, node_of}
 use Rattle.cg_model.specs.Chronicle.{Attempt, Chronicle}
 use Rattle.cg_model.specs.Fronts.{Front, IsSomeWith}

@@ -28,7 +28,7 @@ use Rattle.cg_model.specs.Looks.{greens_of, core_of, ordered_in, told_in, is_in,
 use Rattle.cg_model.specs.Levels.{prim_at}
 use Rattle.cg_model.specs.FactsTalk.{handed_talk}
 use Rattle.cg_model.specs.FactsReplica.{join_from}
-use Rattle.cg_commit.specs.Holds.{run_on, cut_behind}
+use Rattle.cg_disk_records.specs.Holds.{run_on, cut_behind}
 
 -- ---- what a summary says
 

@@ -17,7 +17,7 @@ use Rattle.cg_records.specs.declared.vulnerable.Vulnerable.{Vulnerable}
 use Rattle.cg_group.specs.declared.phase.Phase.{Phase}
 use Rattle.cg_group.specs.State.{phase_of, unordered_of}
 use Rattle.cg_client.specs.Replica.{Held, State, RegPrim, TransPrim, ExchangeStates, ExchangeActions, Construct, No, Un, NonPrim, Left, Replica, created}
-use Rattle.cg_commit.specs.Holds.{run_on, cut_behind, ascend}
+use Rattle.cg_disk_records.specs.Holds.{run_on, cut_behind, ascend}
 use Rattle.cg_model.specs.Chronicle.{Attempt, Chronicle}
 use Rattle.cg_model.specs.World.{has_begun, replica_of}
 use Rattle.cg_model.specs.Fronts.{Front}

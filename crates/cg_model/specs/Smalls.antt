@@ -14,8 +14,8 @@ use Rattle.cg_group.specs.Ready.{ready}
 use Rattle.cg_group.specs.Events.{regulars, order_all, furthest, transitional_places}
 use Rattle.cg_group.specs.Refusals.{sender_at, order_refusal, receive_refusal}
 use Rattle.cg_client.specs.Replica.{State, TransPrim, No, Un, NonPrim}
-use Rattle.cg_commit.specs.Commit.{commits}
-use Rattle.cg_commit.specs.Crash.{EventEnd, Runs, Crashes as EndsInCrash}
+use Rattle.cg_disk_records.specs.Commit.{commits}
+use Rattle.cg_disk_records.specs.Crash.{EventEnd, Runs, Crashes as EndsInCrash}
 use Rattle.cg_schedule.specs.declared.event.Event.{Event}
 use Rattle.cg_schedule.specs.declared.event.Event.TheVariants.{Start, Split, Merge, Request, Order, Recover, Gather, Receive, Deliver, Stop, Join, Leave, Transfer}
 use Rattle.cg_model.specs.World.{World, has_begun, replica_of, is_left}

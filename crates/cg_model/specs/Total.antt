@@ -29,7 +29,7 @@ use Rattle.cg_exchange.specs.ExchangeActions.{message_of, progress, is_next, tak
 use Rattle.cg_exchange.specs.ExchangeStates.{is_usable}
 use Rattle.cg_exchange.specs.PlanEnd.{usable_names}
 use Rattle.cg_construct.specs.Construct.{attempt_set, is_announced}
-use Rattle.cg_replica_step.specs.Step.{after_delivery as take_one}
+use Rattle.cg_model.specs.ReplicaStep.{after_delivery as take_one}
 use Rattle.cg_schedule.specs.declared.event.Event.{Event}
 use Rattle.cg_model.specs.World.{World, replica_of}
 use Rattle.cg_model.specs.Admission.{first_refusal}
@@ -44,7 +44,7 @@ use Rattle.cg_model.specs.Smalls.{smalls_in, turn_steps}
 use Rattle.cg_model.specs.Played.{StandsBeside}
 use Rattle.cg_model.specs.Turns.{Taken, turns_of}
 use Rattle.cg_schedule.specs.declared.event.Event.TheVariants.{Merge}
-use Rattle.cg_commit.specs.Holds.{run_on}
+use Rattle.cg_disk_records.specs.Holds.{run_on}
 
 -- ---- messages that can be used
 

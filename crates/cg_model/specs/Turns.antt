@@ -6,8 +6,8 @@ use Rattle.cg_wire.specs.declared.message.Msg.{Msg}
 use Rattle.cg_group.specs.Events.{HandedOut, deliver, split, merge}
 use Rattle.cg_client.specs.Replica.{Replica}
 use Rattle.cg_client.specs.Turn.{Turn}
-use Rattle.cg_replica_step.specs.Step.{Input, Deliveries, Asks, replica_step}
-use Rattle.cg_commit.specs.Crash.{Strike, Disk, EventEnd, Runs, Crashes, is_committed, end_event}
+use Rattle.cg_model.specs.ReplicaStep.{Input, Deliveries, Asks, replica_step}
+use Rattle.cg_disk_records.specs.Crash.{Strike, Disk, EventEnd, Runs, Crashes, is_committed, end_event}
 use Rattle.cg_schedule.specs.declared.event.Event.{Event}
 use Rattle.cg_schedule.specs.declared.event.Event.TheVariants.{Split, Merge, Request, Deliver, Join, Leave}
 use Rattle.cg_model.specs.World.{NodeState, Up, Down, World, node_of}

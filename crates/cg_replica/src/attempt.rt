@@ -6,7 +6,7 @@ ghost use Rattle.cg_client.specs.Queries.{state_name};
 ghost use Rattle.cg_client.specs.Requests.{is_creating, request};
 ghost use Rattle.cg_client.specs.Calls.{kind_of, IsLineGreen};
 ghost use Rattle.cg_construct.specs.Steps.{turn_after, HasLimits};
-ghost use Rattle.cg_replica_step.specs.Hearing.{hear_delivery};
+ghost use Rattle.cg_model.specs.Hearing.{hear_delivery};
 ghost use Rattle.cg_replica.specs.Seen.{attempt_seen, turn_of, white_in};
 
 use cg_base::NoMemory;

@@ -1,6 +1,6 @@
 //! One replica in memory, in whichever state it is, and what an event makes of it.
 //!
-//! The one contract: `Replica::step` is the table of states as one function, `replica_step` of `cg_replica_step`, on the deliveries
+//! The one contract: `Replica::step` is the table of states as one function, `replica_step` of `cg_model`, on the deliveries
 //! that are read in the bytes, or on a request; of a delivery whose bytes spell no message nothing comes. Its disk, and what
 //! an event writes there, is left to the layers above.
 #![tactic(auto)]

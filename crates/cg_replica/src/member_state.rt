@@ -11,7 +11,7 @@ ghost use Rattle.cg_client.specs.Drafts.{turn_with};
 ghost use Rattle.cg_prim.specs.Steps.{turn_after as behind_prim};
 ghost use Rattle.cg_exchange.specs.Steps.{turn_after as behind_exchange, HasRecord};
 ghost use Rattle.cg_construct.specs.Steps.{turn_after as behind_construct, HasLimits};
-ghost use Rattle.cg_replica_step.specs.Hearing.{hear_delivery};
+ghost use Rattle.cg_model.specs.Hearing.{hear_delivery};
 ghost use Rattle.cg_replica.specs.Seen.{seen, turn_of, white_in};
 
 use crate::attempt::InAttempt;

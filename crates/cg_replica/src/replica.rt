@@ -5,8 +5,8 @@ ghost use Rattle.cg_client.specs.Replica.{fresh};
 ghost use Rattle.cg_client.specs.Requests.{is_creating, request, settle};
 ghost use Rattle.cg_client.specs.Calls.{kind_of, IsLineGreen};
 ghost use Rattle.cg_disk_records.specs.Stored.{recovery_turn};
-ghost use Rattle.cg_replica_step.specs.Hearing.{hear_delivery};
-ghost use Rattle.cg_replica_step.specs.Step.{replica_step};
+ghost use Rattle.cg_model.specs.Hearing.{hear_delivery};
+ghost use Rattle.cg_model.specs.ReplicaStep.{replica_step};
 ghost use Rattle.cg_replica.specs.Inputs.{input_of, taken, HasLimits};
 ghost use Rattle.cg_replica.specs.Seen.{turn_of, white_in, has_left};
 

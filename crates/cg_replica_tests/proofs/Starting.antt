@@ -5,7 +5,7 @@ use Rattle.cg_client.specs.Replica.{fresh_held}
 use Rattle.cg_client.specs.Whitening.{line_of}
 use Rattle.cg_disk_records.specs.Stored.{stored_of, whiten}
 use Rattle.cg_disk_records.specs.Agreeing.{Agrees}
-use Rattle.cg_commit.specs.Always.{AlwaysHolds, AlwaysCounts, AlwaysSettled}
+use Rattle.cg_disk_records.specs.Always.{AlwaysHolds, AlwaysCounts, AlwaysSettled}
 
 module _ (holds : AlwaysHolds) (counts : AlwaysCounts) (settled : AlwaysSettled) (id : ℕ) (set : List Weighted) where
   -- there is nothing to discard

@@ -1,7 +1,7 @@
 use cg_base::{IdSet, ReplicaId, WeightSet};
 use cg_client::Core;
-use cg_commit::what_is_held_agrees;
 use cg_disk::ModelDisk;
+use cg_disk_records::what_is_held_agrees;
 use cg_store::Store;
 use std::test::Fail;
 

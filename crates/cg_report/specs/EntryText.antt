@@ -4,8 +4,8 @@ use Rattle.std.specs.List.{flat_map}
 use Rattle.cg_base.specs.Text.{id_text, id_list_text}
 use Rattle.cg_text.specs.Quoted.{quoted}
 use Rattle.cg_action.specs.Print.{value_text, kind_text}
-use Rattle.cg_answer.specs.declared.answer.Answer.{Answer}
-use Rattle.cg_answer.specs.declared.entry.DbEntry.{DbEntry}
+use Rattle.cg_action.specs.declared.answer.Answer.{Answer}
+use Rattle.cg_action.specs.declared.entry.DbEntry.{DbEntry}
 use Rattle.cg_report.specs.declared.line.Line.{Line}
 use Rattle.cg_report.specs.declared.entry.Made.{Made}
 use Rattle.cg_report.specs.declared.entry.Placed.{Placed}
@@ -14,7 +14,7 @@ use Rattle.cg_report.specs.declared.entry.Shown.{Shown}
 use Rattle.cg_report.specs.declared.entry.Shown.TheVariants.{Weak, Dirty, Pieces, Greens, Database, All}
 use Rattle.cg_report.specs.declared.entry.Entry.{Entry}
 use Rattle.cg_report.specs.LineText.{line_text}
-pub use Rattle.cg_answer.specs.Print.{effect_text, next_key_text, answer_text}
+pub use Rattle.cg_action.specs.AnswerPrint.{effect_text, next_key_text, answer_text}
 
 -- an action that is shown as made, with what it does
 abbrev pub made_text : Made → List ℕ

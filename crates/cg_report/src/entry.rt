@@ -1,8 +1,7 @@
 ghost use Rattle.std.specs.Prelude.{◌≡◌};
 
 use crate::Line;
-use cg_action::Kind;
-use cg_answer::{Answer, Effect, EntryList};
+use cg_action::{Answer, Effect, EntryList, Kind};
 use cg_base::{ActionId, IdList, ReplicaId, Row};
 use std::alloc::Global;
 

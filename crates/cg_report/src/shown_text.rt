@@ -6,7 +6,7 @@ ghost use Rattle.std.specs.Fmt.{WritesOnOk};
 ghost use Rattle.cg_report.specs.EntryText.{next_entry_text, shown_text};
 
 use crate::Shown;
-use cg_answer::DbEntry;
+use cg_action::DbEntry;
 use std::fmt;
 use std::fmt::{Display, Formatter, Write};
 

@@ -5,6 +5,7 @@
 //! words come from, and what source and sink are, is left to the program above.
 #![tactic(auto)]
 
+mod agreement;
 mod asking;
 mod comparing;
 mod ending;

@@ -16,11 +16,11 @@ ghost use Rattle.cg_outcome.specs.Commands.{command_of, reads_input};
 ghost use Rattle.cg_outcome.specs.Status.{write_faults};
 ghost use Rattle.cg_outcome.specs.Taking.{Runs, ReadCause, Completes, OfItems, OfSteps, IsNoted, IsOfRun, TellsOfRefusals, TellsOfLogs, RefusesExactly};
 
+use crate::agreement::items_agree;
 use crate::streaming::replay;
 use crate::trial::try_schedule;
 use cg_follower_list::FollowerList;
 use cg_io::{Sink, Source};
-use cg_items_agree::items_agree;
 use cg_made_rows::MadeRows;
 use cg_outcome::{
     ArgText, Command, Companion, Report, Status, command_of, finish, outcomes_agree, put_schedule,

@@ -7,7 +7,7 @@ use Rattle.cg_action.specs.declared.command.Cmd.{Cmd}
 use Rattle.cg_action.specs.declared.command.Cmd.TheVariants.{Put, Inc}
 use Rattle.cg_action.specs.declared.action.Kind.TheVariants.{Update}
 use Rattle.cg_action.specs.declared.query.Query.TheVariants.{Get}
-use Rattle.cg_answer.specs.declared.answer.Answer.TheVariants.{Int}
+use Rattle.cg_action.specs.declared.answer.Answer.TheVariants.{Int}
 use Rattle.cg_report.specs.NoEntry.{no_entry}
 use Rattle.cg_report.specs.declared.line.Line.{Line}
 use Rattle.cg_report.specs.declared.line.StateName.TheVariants.{RegPrim}

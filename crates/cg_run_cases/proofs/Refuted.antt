@@ -13,11 +13,11 @@ use Rattle.cg_action.specs.declared.command.Cmd.TheVariants.{Put, Need}
 use Rattle.cg_action.specs.declared.query.Query.TheVariants.{Get, Count}
 use Rattle.cg_action.specs.declared.value.Value.{Value}
 use Rattle.cg_action.specs.declared.value.Value.TheVariants.{Int}
-use Rattle.cg_answer.specs.declared.answer.Answer.{Answer}
-use Rattle.cg_answer.specs.declared.answer.Answer.TheVariants.{Absent, Int as Number, Count as Counted}
-use Rattle.cg_answer.specs.declared.effect.Effect.{Effect}
-use Rattle.cg_answer.specs.declared.effect.Effect.TheVariants.{Done, Aborted}
-use Rattle.cg_answer.specs.declared.entry.DbEntry.{DbEntry}
+use Rattle.cg_action.specs.declared.answer.Answer.{Answer}
+use Rattle.cg_action.specs.declared.answer.Answer.TheVariants.{Absent, Int as Number, Count as Counted}
+use Rattle.cg_action.specs.declared.effect.Effect.{Effect}
+use Rattle.cg_action.specs.declared.effect.Effect.TheVariants.{Done, Aborted}
+use Rattle.cg_action.specs.declared.entry.DbEntry.{DbEntry}
 use Rattle.cg_db.specs.Apply.{apply, fold_actions}
 use Rattle.cg_db.specs.Find.{answer, query_of}
 use Rattle.cg_group.specs.declared.reason.Reason.TheVariants.{NotUp}
@@ -38,7 +38,7 @@ use Rattle.cg_base.specs.Sets.{has}
 use Rattle.cg_knowledge.specs.Summaries.{remaining}
 use Rattle.cg_queue.specs.Queue.{green_count}
 use Rattle.cg_client.specs.Replica.{Held, Replica, NonPrim, fresh_held}
-use Rattle.cg_commit.specs.Crash.{Disk, new_disk}
+use Rattle.cg_disk_records.specs.Crash.{Disk, new_disk}
 use Rattle.cg_model.specs.World.{NodeState, Up, Down, Node, World, no_world, replica_of}
 use Rattle.cg_model.specs.Run.{Step}
 use Rattle.cg_model.specs.Shown.{made_actions}

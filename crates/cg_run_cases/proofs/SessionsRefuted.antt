@@ -4,16 +4,16 @@ use Rattle.std.proofs.Common.{refl, ap, arith}
 use Rattle.cg_base.specs.declared.action_id.ActionId.{ActionId}
 use Rattle.cg_action.specs.declared.action.Kind.TheVariants.{Update}
 use Rattle.cg_action.specs.declared.query.Query.TheVariants.{Count}
-use Rattle.cg_answer.specs.declared.answer.Answer.{Answer}
-use Rattle.cg_answer.specs.declared.answer.Answer.TheVariants.{Count as Counted}
-use Rattle.cg_answer.specs.declared.effect.Effect.TheVariants.{Done}
+use Rattle.cg_action.specs.declared.answer.Answer.{Answer}
+use Rattle.cg_action.specs.declared.answer.Answer.TheVariants.{Count as Counted}
+use Rattle.cg_action.specs.declared.effect.Effect.TheVariants.{Done}
 use Rattle.cg_group.specs.declared.reason.Reason.{Reason}
 use Rattle.cg_group.specs.declared.reason.Reason.TheVariants.{UnknownSession, SessionUsed}
 use Rattle.cg_report.specs.NoEntry.{no_entry}
 use Rattle.cg_report.specs.declared.entry.Entry.{Entry}
 use Rattle.cg_schedule.specs.declared.event.Event.TheVariants.{Gather}
 use Rattle.cg_client.specs.Replica.{NonPrim, fresh_held}
-use Rattle.cg_commit.specs.Crash.{new_disk}
+use Rattle.cg_disk_records.specs.Crash.{new_disk}
 use Rattle.cg_model.specs.World.{World, Up, no_world}
 use Rattle.cg_session.specs.declared.event.SessionEvent.{SessionEvent}
 use Rattle.cg_session.specs.declared.event.SessionEvent.TheVariants.{Begin, Write, Weak}

@@ -50,9 +50,9 @@ use Rattle.cg_disk_records.specs.Parts.{do_agree, change_in, checkpoint_in}
 use Rattle.cg_disk_records.specs.Reading.{actions_reading, ids_reading, change_reading, server_reading, servers_reading, members_reading, key_behind_reading, entry_reading, entries_reading, reached_reading, kept_reading, checkpoint_reading}
 use Rattle.cg_disk_records.specs.Stored.{whiten, recovery_turn}
 use Rattle.cg_disk_records.specs.Following.{after_change}
-use Rattle.cg_commit.specs.Commit.{same_values, commits}
-use Rattle.cg_commit.specs.Crash.{with_change, with_checkpoint, crash_outcome, end_event}
-use Rattle.cg_replica_step.specs.Step.{on_message, on_transitional, on_regular, after_delivery, replica_step}
+use Rattle.cg_disk_records.specs.Commit.{same_values, commits}
+use Rattle.cg_disk_records.specs.Crash.{with_change, with_checkpoint, crash_outcome, end_event}
+use Rattle.cg_model.specs.ReplicaStep.{on_message, on_transitional, on_regular, after_delivery, replica_step}
 use Rattle.cg_model.specs.Admission.{first_refusal}
 use Rattle.cg_model.specs.Show.{ended}
 use Rattle.cg_model.specs.Step.{hand, happens, world_step}

@@ -6,7 +6,7 @@ use Rattle.std.proofs.lemmas.Bool.{eqb-false, ltb-false}
 use Rattle.std.proofs.lemmas.List.{set-get_or}
 use Rattle.std.proofs.lemmas.List.Quantifiers.{position-Some}
 use Rattle.cg_base.specs.declared.action_id.ActionId.{ActionId}
-use Rattle.cg_answer.specs.declared.answer.Answer.{Answer}
+use Rattle.cg_action.specs.declared.answer.Answer.{Answer}
 use Rattle.cg_group.specs.declared.reason.Reason.TheVariants.{SessionUsed}
 use Rattle.cg_group.specs.Refusals.{refuse}
 use Rattle.cg_session.specs.declared.token.Behind.{Behind}

@@ -2,7 +2,7 @@
 use Rattle.std.specs.Prelude.{ℕ, List, [], ◌∷◌, Result, Ok, Err, if◌then◌else◌}
 use Rattle.std.specs.Option.{option_map_or}
 use Rattle.cg_base.specs.declared.action_id.ActionId.{ActionId}
-use Rattle.cg_answer.specs.declared.answer.Answer.{Answer}
+use Rattle.cg_action.specs.declared.answer.Answer.{Answer}
 use Rattle.cg_session.specs.declared.token.Behind.{Behind as BehindIt}
 use Rattle.cg_session.specs.Token.{Token, raises, read}
 use Rattle.cg_session_list.specs.declared.session.Session.{Session}

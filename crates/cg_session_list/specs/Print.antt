@@ -1,7 +1,7 @@
 -- The text of the lines of sessions, without their ends.
 use Rattle.std.specs.Prelude.{ℕ, List, ◌++◌, codes, decimal}
 use Rattle.cg_base.specs.Text.{id_text}
-use Rattle.cg_answer.specs.Print.{answer_text}
+use Rattle.cg_action.specs.AnswerPrint.{answer_text}
 use Rattle.cg_session_list.specs.declared.session_line.SessionLine.{SessionLine}
 use Rattle.cg_session_list.specs.declared.session_line.SessionLine.TheVariants.{Wrote, At, Behind, Answered}
 

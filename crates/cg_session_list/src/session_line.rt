@@ -1,4 +1,4 @@
-use cg_answer::Answer;
+use cg_action::Answer;
 use cg_base::ActionId;
 
 /// A line that speaks of the session `s`.

@@ -7,7 +7,7 @@ ghost use Rattle.cg_session_list.specs.Parts.{after_read, read_line, told_to};
 ghost use Rattle.cg_session_list.specs.Sessions.{changed, changing};
 
 use crate::{Session, SessionLine};
-use cg_answer::Answer;
+use cg_action::Answer;
 use cg_base::{ActionId, NoMemory, Row};
 use cg_group::Reason;
 use cg_session::{Behind, Token};

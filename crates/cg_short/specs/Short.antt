@@ -9,11 +9,11 @@ use Rattle.cg_action.specs.declared.command.Cmd.{Cmd}
 use Rattle.cg_action.specs.declared.command.Cmd.TheVariants.{Put, Del, Inc, Cas, Move, Need}
 use Rattle.cg_action.specs.declared.action.Kind.{Kind}
 use Rattle.cg_action.specs.declared.action.Kind.TheVariants.{Update, Join, Leave}
-use Rattle.cg_answer.specs.declared.answer.Answer.{Answer}
-use Rattle.cg_answer.specs.declared.answer.Answer.TheVariants as answer
-use Rattle.cg_answer.specs.declared.effect.Effect.{Effect}
-use Rattle.cg_answer.specs.declared.effect.Effect.TheVariants.{Done, Aborted, Range}
-use Rattle.cg_answer.specs.declared.entry.DbEntry.{DbEntry}
+use Rattle.cg_action.specs.declared.answer.Answer.{Answer}
+use Rattle.cg_action.specs.declared.answer.Answer.TheVariants as answer
+use Rattle.cg_action.specs.declared.effect.Effect.{Effect}
+use Rattle.cg_action.specs.declared.effect.Effect.TheVariants.{Done, Aborted, Range}
+use Rattle.cg_action.specs.declared.entry.DbEntry.{DbEntry}
 use Rattle.cg_records.specs.declared.primary.Primary.{Primary}
 use Rattle.cg_records.specs.declared.vulnerable.Vulnerable.{Vulnerable}
 use Rattle.cg_records.specs.Limits.{Each}

@@ -5,7 +5,7 @@ ghost use Rattle.cg_short.specs.Short.{IfAny, IsShortEffect, IsShortAnswer, IsSh
 
 use crate::actions::{integer_is_short, value_is_short};
 use crate::names::{byte_is_short, number_is_short};
-use cg_answer::{Answer, DbEntry, Effect};
+use cg_action::{Answer, DbEntry, Effect};
 
 pub fn effect_is_short(effect: Effect)
     ensures { IsShortEffect effect }

@@ -7,7 +7,7 @@ use Rattle.cg_disk.specs.declared.disk.Side.TheVariants.{A, B}
 use Rattle.cg_journal.specs.Records.{Records, on_side}
 use Rattle.cg_disk_records.specs.Parts.{Saved, saved_in, stored_in}
 use Rattle.cg_disk_records.specs.declared.checkpoint.Checkpoint.{Checkpoint}
-use Rattle.cg_commit.specs.Always.{AlwaysHolds}
+use Rattle.cg_disk_records.specs.Always.{AlwaysHolds}
 use Rattle.cg_store.specs.Stands.{size_of, live_from, live_on, OnDisk, standing_on, chosen}
 use Rattle.cg_store.specs.Opening.{first_on, FindsFirst, IsLater, live_of, IsChosen, Replays, Finds}
 use Rattle.cg_store.specs.declared.finding.OpenedSide.{OpenedSide}

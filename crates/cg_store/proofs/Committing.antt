@@ -16,7 +16,7 @@ use Rattle.cg_disk_records.specs.Change.{spelled_change, change_of}
 use Rattle.cg_disk_records.specs.Limits.{IsChange}
 use Rattle.cg_disk_records.specs.Parts.{change_in}
 use Rattle.cg_disk_records.specs.Following.{after_change, IsRecorded}
-use Rattle.cg_commit.specs.Commit.{same_values, commits}
+use Rattle.cg_disk_records.specs.Commit.{same_values, commits}
 use Rattle.cg_store.specs.Stands.{led_by, OnDisk, Stands, led, committed}
 use Rattle.cg_store.specs.StoreState.{StoreState}
 use Rattle.cg_store.specs.Answers.{IsRefused, EachMoment}

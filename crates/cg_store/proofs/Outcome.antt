@@ -5,7 +5,7 @@ use Rattle.cg_action.specs.declared.action.Action.{Action}
 use Rattle.cg_journal.specs.Adds.{gate_stands}
 use Rattle.cg_client.specs.Turn.{Turn}
 use Rattle.cg_disk_records.specs.Stored.{Stored}
-use Rattle.cg_commit.specs.Crash.{Strike, Disk, new_disk, with_change, with_checkpoint, is_committed, is_checkpointed, at_rest, crash_outcome}
+use Rattle.cg_disk_records.specs.Crash.{Strike, Disk, new_disk, with_change, with_checkpoint, is_committed, is_checkpointed, at_rest, crash_outcome}
 use Rattle.cg_store.specs.Stands.{OnDisk, committed, checkpointed, created, disk_of}
 use Rattle.cg_store.specs.Defined.{strike_at, EndsAsDefined}
 use Rattle.cg_store.specs.StrikeLaws.{outcome, early_commit, early_checkpoint, late_commit, late_checkpoint}

@@ -12,8 +12,8 @@ use Rattle.cg_disk_records.specs.Limits.{IsStored}
 use Rattle.cg_disk_records.specs.Parts.{change_in}
 use Rattle.cg_disk_records.specs.Following.{fits_known, know, turn_green, green_by_name, make, all_of, put_values, with_values, after_change}
 use Rattle.cg_disk_records.specs.Agreeing.{Agrees}
-use Rattle.cg_commit.specs.Holds.{Holds}
-use Rattle.cg_commit.specs.Always.{AlwaysHolds}
+use Rattle.cg_disk_records.specs.Holds.{Holds}
+use Rattle.cg_disk_records.specs.Always.{AlwaysHolds}
 use Rattle.cg_store.specs.Opening.{Follows, IsSound}
 use Rattle.cg_store.specs.Stands.{led_by, led_by_all}
 

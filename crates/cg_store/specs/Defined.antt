@@ -5,7 +5,7 @@ use Rattle.cg_disk.specs.State.{Blow, Fails, Stops}
 use Rattle.cg_journal.specs.Adds.{gate_stands}
 use Rattle.cg_client.specs.Turn.{Turn}
 use Rattle.cg_disk_records.specs.Stored.{Stored}
-use Rattle.cg_commit.specs.Crash.{Fault, FailOnce, StopWith, Strike, new_disk, with_change, with_checkpoint, at_rest, crash_outcome}
+use Rattle.cg_disk_records.specs.Crash.{Fault, FailOnce, StopWith, Strike, new_disk, with_change, with_checkpoint, at_rest, crash_outcome}
 use Rattle.cg_store.specs.Stands.{OnDisk, committed, checkpointed, created, disk_of}
 
 -- how a call is struck, with the bytes that a crash leaves

@@ -14,7 +14,7 @@ use Rattle.cg_disk_records.specs.Stored.{Stored, stable_of}
 use Rattle.cg_disk_records.specs.Change.{spelled_change}
 use Rattle.cg_disk_records.specs.Limits.{IsChange}
 use Rattle.cg_disk_records.specs.Following.{change_with}
-use Rattle.cg_commit.specs.Commit.{commits}
+use Rattle.cg_disk_records.specs.Commit.{commits}
 use Rattle.cg_client.specs.Drafts.{turn_with}
 use Rattle.cg_store.specs.Stands.{OnDisk, led_by, led}
 use Rattle.cg_store.specs.declared.pending_record.PendingRecord.{PendingRecord}

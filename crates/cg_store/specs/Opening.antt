@@ -11,7 +11,7 @@ use Rattle.cg_disk_records.specs.Stored.{Stored, stable_of}
 use Rattle.cg_disk_records.specs.Parts.{Saved, saved_in, stored_in, checkpoint_in}
 use Rattle.cg_disk_records.specs.Laws.{AreSaved}
 use Rattle.cg_disk_records.specs.declared.checkpoint.Checkpoint.{Checkpoint}
-use Rattle.cg_commit.specs.Holds.{Holds}
+use Rattle.cg_disk_records.specs.Holds.{Holds}
 use Rattle.cg_store.specs.Stands.{Live, live_from, OnDisk, standing_on, Stands, stands_for, standing_in, led_by_all}
 use Rattle.cg_store.specs.StoreState.{StoreState}
 use Rattle.cg_store.specs.declared.finding.OpenedSide.{OpenedSide}

@@ -12,7 +12,7 @@ use Rattle.cg_disk_records.specs.Change.{spelled_change, change_of}
 use Rattle.cg_disk_records.specs.Checkpoint.{spelled_checkpoint, size_with, empty_size}
 use Rattle.cg_disk_records.specs.Parts.{change_in, Saved, checkpoint_in}
 use Rattle.cg_disk_records.specs.Following.{after_change}
-use Rattle.cg_commit.specs.Crash.{Disk}
+use Rattle.cg_disk_records.specs.Crash.{Disk}
 
 -- the state that a record leads to, where it is a change that fits
 abbrev pub led_by : Stored → List ℕ → Option Stored

@@ -5,7 +5,7 @@ use Rattle.std.proofs.lemmas.Bool.Decides.{nat_tests}
 use Rattle.cg_disk.specs.State.{Blow, Fails, Stops}
 use Rattle.cg_journal.specs.Adds.{gate_stands}
 use Rattle.cg_client.specs.Turn.{Turn}
-use Rattle.cg_commit.specs.Crash.{Disk, with_change, with_checkpoint, is_committed, is_checkpointed}
+use Rattle.cg_disk_records.specs.Crash.{Disk, with_change, with_checkpoint, is_committed, is_checkpointed}
 use Rattle.cg_store.specs.Defined.{strike_at}
 
 abbrev pub outcome : Disk → Turn → Bool → Bool → Disk

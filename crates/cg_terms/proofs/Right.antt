@@ -8,7 +8,7 @@ use Rattle.cg_base.specs.declared.action_id.ActionId.{ActionId}
 use Rattle.cg_action.specs.declared.action.Action.{Action}
 use Rattle.cg_action.specs.declared.query.Query.{Query}
 use Rattle.cg_action.specs.declared.query.Query.TheVariants.{Get}
-use Rattle.cg_answer.specs.declared.answer.Answer.TheVariants.{Absent}
+use Rattle.cg_action.specs.declared.answer.Answer.TheVariants.{Absent}
 use Rattle.cg_db.specs.Apply.{fold_actions, run_commands}
 use Rattle.cg_db.specs.Find.{answer}
 use Rattle.cg_db.specs.Plan.{with_changes}
@@ -21,7 +21,7 @@ use Rattle.cg_report.specs.declared.line.StateName.TheVariants as state
 use Rattle.cg_report.specs.declared.line.UpLine.{UpLine}
 use Rattle.cg_schedule.specs.declared.event.Event.TheVariants.{Gather, Recover, Weak, Split, Stop}
 use Rattle.cg_client.specs.Replica.{Held, Replica, NonPrim, fresh_held}
-use Rattle.cg_commit.specs.Crash.{new_disk}
+use Rattle.cg_disk_records.specs.Crash.{new_disk}
 use Rattle.cg_queue.specs.Queue.{green_count}
 use Rattle.cg_model.specs.World.{NodeState, Up, Down, Node, World, no_world, running, replica_of}
 use Rattle.cg_model.specs.Run.{Step}

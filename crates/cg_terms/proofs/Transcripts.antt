@@ -11,10 +11,10 @@ use Rattle.cg_action.specs.declared.command.Cmd.TheVariants.{Put}
 use Rattle.cg_action.specs.declared.query.Query.TheVariants.{Get, Count}
 use Rattle.cg_action.specs.declared.value.Value.{Value}
 use Rattle.cg_action.specs.declared.value.Value.TheVariants.{Int}
-use Rattle.cg_answer.specs.declared.answer.Answer.{Answer}
-use Rattle.cg_answer.specs.declared.answer.Answer.TheVariants.{Absent, Int as Number, Count as Counted}
-use Rattle.cg_answer.specs.declared.effect.Effect.TheVariants.{Done}
-use Rattle.cg_answer.specs.declared.entry.DbEntry.{DbEntry}
+use Rattle.cg_action.specs.declared.answer.Answer.{Answer}
+use Rattle.cg_action.specs.declared.answer.Answer.TheVariants.{Absent, Int as Number, Count as Counted}
+use Rattle.cg_action.specs.declared.effect.Effect.TheVariants.{Done}
+use Rattle.cg_action.specs.declared.entry.DbEntry.{DbEntry}
 use Rattle.cg_db.specs.Apply.{run_commands}
 use Rattle.cg_db.specs.Plan.{with_changes}
 use Rattle.cg_report.specs.NoEntry.{no_entry}
@@ -31,7 +31,7 @@ use Rattle.cg_report.specs.declared.line.UpLine.{UpLine}
 use Rattle.cg_schedule.specs.declared.event.Event.{Event}
 use Rattle.cg_schedule.specs.declared.event.Event.TheVariants.{Gather, Recover, Weak}
 use Rattle.cg_client.specs.Replica.{Held, Replica, NonPrim, fresh_held}
-use Rattle.cg_commit.specs.Crash.{new_disk}
+use Rattle.cg_disk_records.specs.Crash.{new_disk}
 use Rattle.cg_model.specs.World.{Up, no_world}
 use Rattle.cg_model.specs.Run.{Step}
 use Rattle.cg_queue.specs.Queue.{names_of}

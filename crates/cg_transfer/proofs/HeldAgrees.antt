@@ -6,8 +6,8 @@ use Rattle.cg_client.specs.Replica.{Held}
 use Rattle.cg_queue.specs.Queue.{green_count}
 use Rattle.cg_disk_records.specs.Agreeing.{Agrees, is_present}
 use Rattle.cg_disk_records.specs.Stored.{stored_of, whiten}
-use Rattle.cg_commit.specs.Holds.{Holds}
-use Rattle.cg_commit.specs.Always.{AlwaysCounts, AlwaysSettled}
+use Rattle.cg_disk_records.specs.Holds.{Holds}
+use Rattle.cg_disk_records.specs.Always.{AlwaysCounts, AlwaysSettled}
 
 module _ (h : Held) where
   -- the same without servers, of which no green is discarded

@@ -1,13 +1,13 @@
 //! The snapshot of a replica that is up.
 ghost use Rattle.std.specs.Prelude.{◌≡◌, IfOk};
 ghost use Rattle.cg_records.specs.Limits.{IsNumber};
-ghost use Rattle.cg_commit.specs.Holds.{Holds};
+ghost use Rattle.cg_disk_records.specs.Holds.{Holds};
 ghost use Rattle.cg_transfer.specs.Calls.{copy_of};
 
 use crate::Transfer;
 use cg_base::{NoMemory, ReplicaId};
 use cg_client::Core;
-use cg_commit::what_is_held_agrees;
+use cg_disk_records::what_is_held_agrees;
 use cg_join::joiners_agree;
 
 impl Transfer {

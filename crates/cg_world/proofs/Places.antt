@@ -4,7 +4,7 @@ use Rattle.std.proofs.lemmas.Bool.{cases_Bool, cond-true, cond-false}
 use Rattle.cg_base.specs.declared.action_id.ActionId.{ActionId}
 use Rattle.cg_base.specs.Ids.{same_id}
 use Rattle.cg_base.specs.IdLaws.{same_id-is}
-use Rattle.cg_commit.specs.Holds.{run_on}
+use Rattle.cg_disk_records.specs.Holds.{run_on}
 use Rattle.cg_model.specs.Places.{place_of}
 use Rattle.cg_agree_lemmas.specs.BookGrows.{same-self}
 use Rattle.cg_agree_lemmas.specs.NamesTimes.{times-once, in-times}

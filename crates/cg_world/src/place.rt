@@ -1,6 +1,6 @@
 //! The place of a name in the global order.
 ghost use Rattle.std.specs.Prelude.{◌≡◌, [], true, IfSome};
-ghost use Rattle.cg_commit.specs.Holds.{run_on};
+ghost use Rattle.cg_disk_records.specs.Holds.{run_on};
 ghost use Rattle.cg_model.specs.Places.{place_of};
 
 use cg_base::ActionId;

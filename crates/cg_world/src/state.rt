@@ -5,7 +5,7 @@ ghost use Rattle.cg_base.specs.Cuts.{index_in};
 ghost use Rattle.cg_base.specs.Lists.{first_some};
 ghost use Rattle.cg_group.specs.Ready.{ready};
 ghost use Rattle.cg_group.specs.Refusals.{not_up};
-ghost use Rattle.cg_commit.specs.Holds.{Holds};
+ghost use Rattle.cg_disk_records.specs.Holds.{Holds};
 ghost use Rattle.cg_model.specs.Admission.{takes_part, unknown};
 ghost use Rattle.cg_model.specs.Making.{printed_position};
 ghost use Rattle.cg_model.specs.Places.{creates, place_of};

@@ -4,15 +4,15 @@ use Rattle.cg_disk.specs.View.{DiskView}
 use Rattle.cg_client.specs.Replica.{Held}
 use Rattle.cg_client.specs.Summary.{own_to_red}
 use Rattle.cg_disk_records.specs.Stored.{recovery_turn}
-use Rattle.cg_commit.specs.Crash.{new_disk, recovered, disk_recovered}
+use Rattle.cg_disk_records.specs.Crash.{new_disk, recovered, disk_recovered}
 use Rattle.cg_store.specs.Stands.{Stands, created}
 use Rattle.cg_engine.specs.Engines.{Fallen}
 use Rattle.cg_model.specs.Step.{joiner_replica}
 use Rattle.cg_model.specs.World.{Up, TransferState}
-use Rattle.cg_world_node.specs.Calls.{node, risen}
-use Rattle.cg_world_node.specs.CrashedDisk.{IsCrashedDisk}
-use Rattle.cg_world_node.specs.Seen.{disk_left, down_seen}
-use Rattle.cg_world_node.specs.SeenLaws.{disk-left}
+use Rattle.cg_world_events.specs.Calls.{node, risen}
+use Rattle.cg_world_events.specs.CrashedDisk.{IsCrashedDisk}
+use Rattle.cg_world_events.specs.Seen.{disk_left, down_seen}
+use Rattle.cg_world_events.specs.SeenLaws.{disk-left}
 use Rattle.cg_transfer.specs.Calls.{IsOfJoined}
 use Rattle.cg_world_events.specs.Handing.{arrived}
 

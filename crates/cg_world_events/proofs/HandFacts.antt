@@ -8,13 +8,13 @@ use Rattle.cg_action.specs.declared.action.Action.{Action}
 use Rattle.cg_group.specs.Events.{send_all, go_down}
 use Rattle.cg_client.specs.Replica.{Replica}
 use Rattle.cg_client.specs.Turn.{Turn}
-use Rattle.cg_replica_step.specs.Recorded.{AreBooked}
-use Rattle.cg_replica_step.specs.Step.{Input, replica_step}
-use Rattle.cg_commit.specs.Crash.{EventEnd, Runs, Crashes, end_event}
+use Rattle.cg_model.specs.Recorded.{AreBooked}
+use Rattle.cg_model.specs.ReplicaStep.{Input, replica_step}
+use Rattle.cg_disk_records.specs.Crash.{EventEnd, Runs, Crashes, end_event}
 use Rattle.cg_model.specs.World.{NodeState, Up, Down, Node, World, running, node_of, replica_of, with_node, set_life}
 use Rattle.cg_model.specs.Show.{StepInProgress, news_of, tell}
 use Rattle.cg_model.specs.Step.{after_event, hand_to, hand}
-use Rattle.cg_world_node.specs.Calls.{behind, taken}
+use Rattle.cg_world_events.specs.Calls.{behind, taken}
 use Rattle.cg_world_events.specs.StepInProgress.{comes_back}
 
 -- the first that passes a test passes it

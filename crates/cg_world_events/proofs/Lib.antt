@@ -8,3 +8,13 @@ mod NodeFacts
 mod SeenNodes
 mod StruckNodes
 mod TransferFacts
+mod Beginning
+mod Events
+mod Falling
+mod Opening
+mod Arming
+mod Crashing
+mod ComingUp
+mod Finding
+mod Ordered
+mod Printing

@@ -7,7 +7,7 @@ use Rattle.cg_client.specs.Queries.{weak_answer, dirty_answer}
 use Rattle.cg_report.specs.declared.entry.Shown.{Shown}
 use Rattle.cg_report.specs.declared.entry.Shown.TheVariants.{Weak as ShownWeak, Dirty as ShownDirty}
 use Rattle.cg_model.specs.World.{Node, World, running, node_of, replica_of}
-use Rattle.cg_world_node.specs.Calls.{shows_weak, shows_dirty}
+use Rattle.cg_world_events.specs.Calls.{shows_weak, shows_dirty}
 use Rattle.cg_world_events.proofs.StruckNodes.{found-id}
 
 abbrev shown_at : World → ℕ → (Replica → List Shown) → List Shown

@@ -13,12 +13,12 @@ use Rattle.cg_client.specs.Turn.{Turn, begin}
 use Rattle.cg_client.specs.Marks.{marked}
 use Rattle.cg_client.specs.Summary.{redden, forget_own, own_to_red}
 use Rattle.cg_disk_records.specs.Stored.{recovery_turn as recover_stored}
-use Rattle.cg_commit.specs.Crash.{Disk, Strike, at_rest, recovered, disk_recovered}
+use Rattle.cg_disk_records.specs.Crash.{Disk, Strike, at_rest, recovered, disk_recovered}
 use Rattle.cg_model.specs.World.{NodeState, Up, Down, Node, World, running, node_of, replica_of, with_node, set_life}
 use Rattle.cg_model.specs.Looks.{on_disk}
 use Rattle.cg_model.specs.Show.{EventEffects, news_of_recovery, tell}
 use Rattle.cg_model.specs.Step.{quietly, arm_at, arm, crash_at, stop, recover_from, recover}
-use Rattle.cg_world_node.specs.Calls.{armed, crashed, risen}
+use Rattle.cg_world_events.specs.Calls.{armed, crashed, risen}
 use Rattle.cg_world_events.specs.StepInProgress.{hosted, fallen}
 use Rattle.cg_world_events.specs.Grounds.{IsHosted}
 use Rattle.cg_world_events.specs.Striking.{returned, telling}

@@ -1,13 +1,13 @@
 -- What pieces of a snapshot make of a world, where there is no other snapshot for their joiner.
 use Rattle.std.specs.Prelude.{ℕ, ◌==◌, ◌+◌, ◌++◌, [], ◌∷◌, ◌≡◌, min, Option, None, Some, MatchOption, option_map, if◌then◌else◌}
 use Rattle.cg_client.specs.Replica.{Replica}
-use Rattle.cg_commit.specs.Crash.{new_disk}
+use Rattle.cg_disk_records.specs.Crash.{new_disk}
 use Rattle.cg_report.specs.declared.entry.Shown.TheVariants.{Pieces}
 use Rattle.cg_model.specs.World.{World, Up, Node, TransferState, replica_of, bring_up}
 use Rattle.cg_model.specs.Show.{StepInProgress}
 use Rattle.cg_model.specs.Step.{joiner_replica, snapshot_for, without_snapshot, showing}
 use Rattle.cg_client.specs.Joined.{piece_count}
-use Rattle.cg_world_node.specs.Calls.{node}
+use Rattle.cg_world_events.specs.Calls.{node}
 use Rattle.cg_transfer.specs.Calls.{copy_of}
 
 -- a new snapshot of the replica, where it is up

@@ -5,3 +5,10 @@ pub mod Happening
 pub mod Hosting
 pub mod Striking
 pub mod GroundLaws
+pub mod Calls
+pub mod CrashedDisk
+pub mod RestingLaws
+pub mod Seen
+pub mod SeenLaws
+pub mod Looks
+pub mod Showing

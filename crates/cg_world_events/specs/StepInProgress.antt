@@ -7,7 +7,7 @@ use Rattle.cg_group.specs.Events.{send_all, go_down}
 use Rattle.cg_model.specs.World.{Node, World, with_node}
 use Rattle.cg_model.specs.Show.{StepInProgress, Moved, is_news, line_of, with_printed, tell}
 use Rattle.cg_model.specs.Step.{quietly}
-use Rattle.cg_world_node.specs.Calls.{NodeOutput}
+use Rattle.cg_world_events.specs.Calls.{NodeOutput}
 
 -- nothing has come of an event yet
 abbrev pub IsQuiet : StepInProgress → Type 0

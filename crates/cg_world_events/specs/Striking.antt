@@ -1,7 +1,7 @@
 -- What a recovery makes of a world, from the replica's node.
 use Rattle.std.specs.Prelude.{Option, Some, None}
 use Rattle.cg_group.specs.Events.{come_up}
-use Rattle.cg_world_node.specs.Calls.{risen}
+use Rattle.cg_world_events.specs.Calls.{risen}
 use Rattle.cg_model.specs.World.{World, Node}
 use Rattle.cg_model.specs.Show.{StepInProgress, EventEffects, tell}
 use Rattle.cg_model.specs.Step.{quietly}

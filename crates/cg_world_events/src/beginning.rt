@@ -9,10 +9,9 @@ ghost use Rattle.cg_world_events.specs.StepInProgress.{IsQuiet};
 ghost use Rattle.cg_world_events.specs.Happening.{Happens};
 
 use crate::admission::{admit, empty_set};
-use crate::{StepInProgress, WorldState};
+use crate::{Node, StepInProgress, WorldState};
 use cg_base::{NoMemory, ReplicaId, WeightSet};
 use cg_group::GroupErr;
-use cg_world_node::Node;
 use std::alloc::Global;
 
 // These replicas begin, each alone, as the servers of one database.

@@ -12,12 +12,11 @@ ghost use Rattle.cg_world_events.specs.Handing.{new_copy, Chooses, arrived, join
 ghost use Rattle.cg_world_events.specs.Happening.{Happens};
 
 use crate::admission::{admit, transfer_refused};
-use crate::{StepInProgress, WorldState};
+use crate::{Node, StepInProgress, WorldState};
 use cg_base::{NoMemory, ReplicaId, Row};
 use cg_group::GroupErr;
 use cg_report::Shown;
 use cg_transfer::Transfer;
-use cg_world_node::Node;
 use std::alloc::Global;
 
 // The next pieces of a snapshot go to its joiner, which is up when it has all of them.

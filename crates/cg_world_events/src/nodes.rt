@@ -7,8 +7,8 @@ ghost use Rattle.cg_model.specs.World.{with_node};
 ghost use Rattle.cg_world_events.specs.Hosting.{ups, with_up};
 ghost use Rattle.cg_model.specs.World.{Node as NodeView};
 
+use crate::Node;
 use cg_base::{IdSet, NoMemory, ReplicaId};
-use cg_world_node::Node;
 use std::alloc::Global;
 use std::marker::Model;
 

@@ -3,7 +3,7 @@ ghost use Rattle.std.specs.Prelude.{◌≡◌, ◌∷◌, [], true, false, Some,
 ghost use Rattle.std.specs.Option.{option_copied, option_map_or};
 ghost use Rattle.cg_base.specs.Sets.{has};
 ghost use Rattle.cg_members.specs.Servers.{is_server};
-ghost use Rattle.cg_commit.specs.Holds.{Holds};
+ghost use Rattle.cg_disk_records.specs.Holds.{Holds};
 ghost use Rattle.cg_group.specs.Ready.{ready};
 ghost use Rattle.cg_group.specs.Events.{send_all};
 ghost use Rattle.cg_base.specs.Lists.{first_some};
@@ -21,13 +21,12 @@ use crate::made::MadeCut;
 use crate::nodes::Nodes;
 use crate::snapshot_counts::SnapshotCounts;
 use crate::transfers::Transfers;
+use crate::{Lines, Node};
 use cg_base::{IdList, IdSet, NoMemory, ReplicaId, Row};
 use cg_client::Core;
 use cg_encoded::EncodedMsg;
 use cg_group::{Group, Reason};
 use cg_report::Line;
-use cg_world_node::Node;
-use cg_world_report::Lines;
 use std::alloc::Global;
 use std::marker::Model;
 

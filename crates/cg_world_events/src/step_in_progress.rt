@@ -4,26 +4,24 @@ ghost use Rattle.cg_base.specs.declared.action_id.ActionId.{ActionId as ActionNa
 ghost use Rattle.cg_action.specs.declared.action.Action.{Action as ActionView};
 ghost use Rattle.cg_action.specs.Limits.{IsKind};
 ghost use Rattle.cg_client.specs.Calls.{kind_of};
-ghost use Rattle.cg_replica_step.specs.Recorded.{AreBooked};
-ghost use Rattle.cg_replica_step.specs.Step.{Deliveries, Asks};
+ghost use Rattle.cg_model.specs.Recorded.{AreBooked};
+ghost use Rattle.cg_model.specs.ReplicaStep.{Deliveries, Asks};
 ghost use Rattle.cg_model.specs.World.{replica_of};
 ghost use Rattle.cg_model.specs.Step.{quietly, hand, hand_over};
 ghost use Rattle.cg_model.specs.Standing.{IsHandedBooked, AreBookedInTurn};
 ghost use Rattle.cg_model.specs.Touched.{ShowsNewsOf, new_lines_of};
-ghost use Rattle.cg_world_node.specs.Calls.{taken, IsBookedFor};
-ghost use Rattle.cg_world_report.specs.Showing.{shows_after, order_after, made_after};
+ghost use Rattle.cg_world_events.specs.Calls.{taken, IsBookedFor};
+ghost use Rattle.cg_world_events.specs.Showing.{shows_after, order_after, made_after};
 ghost use Rattle.cg_world_events.specs.StepInProgress.{comes_back, ended_with};
 ghost use Rattle.cg_model.specs.Show.{ended, tell};
 
-use crate::WorldState;
 use crate::made::MadeCut;
+use crate::{EntryBuilder, EventEffects, Node, NodeOutput, WorldState};
 use cg_base::{IdSet, NoMemory, ReplicaId, Row};
 use cg_client::Request;
 use cg_encoded::EncodedMsg;
 use cg_group::{Delivery, Handed};
 use cg_report::{Entry, Shown};
-use cg_world_node::{Node, NodeOutput};
-use cg_world_report::{EntryBuilder, EventEffects};
 use std::alloc::Global;
 use std::marker::Model;
 

@@ -1,9 +1,9 @@
 //! Crashes, faults of devices, and the way back.
 ghost use Rattle.std.specs.Prelude.{◌≡◌, ◌≤◌, false, [], is_some, IfOk, OnOk};
 ghost use Rattle.cg_group.specs.State.{is_up};
-ghost use Rattle.cg_commit.specs.Crash.{FailOnce, StopWith};
+ghost use Rattle.cg_disk_records.specs.Crash.{FailOnce, StopWith};
 ghost use Rattle.cg_schedule.specs.declared.event.Event.TheVariants.{Stop, Fail, Recover};
-ghost use Rattle.cg_world_node.specs.Calls.{crashed, risen};
+ghost use Rattle.cg_world_events.specs.Calls.{crashed, risen};
 ghost use Rattle.cg_model.specs.World.{replica_of};
 ghost use Rattle.cg_model.specs.Step.{arm, stop, recover};
 ghost use Rattle.cg_world_events.specs.Grounds.{IsHosted};
@@ -12,11 +12,9 @@ ghost use Rattle.cg_world_events.specs.StepInProgress.{IsQuiet, hosted, fallen};
 ghost use Rattle.cg_world_events.specs.Striking.{returned, telling};
 
 use crate::admission::{admit, not_down, takes_part};
-use crate::{StepInProgress, WorldState};
+use crate::{EventEffects, Node, StepInProgress, WorldState};
 use cg_base::{Bytes, NoMemory, ReplicaId, Row};
 use cg_group::GroupErr;
-use cg_world_node::Node;
-use cg_world_report::EventEffects;
 use std::alloc::Global;
 
 // The replica crashes now, or in the device call of this number from the next one on, which leaves these bytes in places that

@@ -3,7 +3,7 @@ use Rattle.std.proofs.lemmas.Int.{ints}
 use Rattle.std.specs.Prelude.{Some, None, pos, FitsSigned}
 use Rattle.std.specs.Int.{w64}
 use Rattle.cg_action.specs.declared.value.Value.TheVariants.{Int}
-use Rattle.cg_answer.specs.declared.effect.Effect.TheVariants.{Done}
+use Rattle.cg_action.specs.declared.effect.Effect.TheVariants.{Done}
 use Rattle.cg_db.specs.Apply.{number_of}
 use Rattle.cg_db.specs.Map.{put, value_of}
 use Rattle.cg_db.specs.View.{of_entries}

@@ -1,8 +1,8 @@
 use Rattle.std.proofs.Common.{◌≡◌, IfOk, sym, ap, ◌∙◌, subst}
 use Rattle.cg_client.specs.Turn.{Turn}
 use Rattle.cg_construct.specs.Steps.{turn_after}
-use Rattle.cg_replica_step.specs.Hearing.{hear_delivery}
-use Rattle.cg_replica_step.specs.HearingLaws.{construct_hears, no_hears, un_hears}
+use Rattle.cg_model.specs.Hearing.{hear_delivery}
+use Rattle.cg_model.specs.HearingLaws.{construct_hears, no_hears, un_hears}
 use Rattle.cg_replica.specs.Seen.{attempt_seen, turn_of}
 use Rattle.cg_replica.proofs.attempt.hear.Goals as goal
 

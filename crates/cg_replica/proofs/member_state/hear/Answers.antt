@@ -1,6 +1,6 @@
 use Rattle.std.proofs.Common.{sym, ap, ◌∙◌}
-use Rattle.cg_replica_step.specs.Hearing.{hear_delivery}
-use Rattle.cg_replica_step.specs.HearingLaws.{left_hears}
+use Rattle.cg_model.specs.Hearing.{hear_delivery}
+use Rattle.cg_model.specs.HearingLaws.{left_hears}
 use Rattle.cg_replica.specs.Seen.{seen, turn_of}
 use Rattle.cg_replica.proofs.member_state.hear.Goals as goal
 

@@ -1,8 +1,8 @@
 use Rattle.std.proofs.Common.{◌≡◌, IfOk, sym, ap, ◌∙◌, subst}
 use Rattle.cg_client.specs.Turn.{Turn}
 use Rattle.cg_exchange.specs.Steps.{turn_after}
-use Rattle.cg_replica_step.specs.Hearing.{hear_delivery}
-use Rattle.cg_replica_step.specs.HearingLaws.{non_prim_hears, exchange_states_hears, exchange_actions_hears}
+use Rattle.cg_model.specs.Hearing.{hear_delivery}
+use Rattle.cg_model.specs.HearingLaws.{non_prim_hears, exchange_states_hears, exchange_actions_hears}
 use Rattle.cg_replica.specs.Seen.{outside_seen, turn_of}
 use Rattle.cg_replica.proofs.out_of_prim.hear.Goals as goal
 

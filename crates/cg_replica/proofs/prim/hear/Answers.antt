@@ -1,8 +1,8 @@
 use Rattle.std.proofs.Common.{◌≡◌, IfOk, sym, ap, ◌∙◌, subst}
 use Rattle.cg_client.specs.Turn.{Turn}
 use Rattle.cg_prim.specs.Steps.{turn_after}
-use Rattle.cg_replica_step.specs.Hearing.{hear_delivery}
-use Rattle.cg_replica_step.specs.HearingLaws.{reg_prim_hears, trans_prim_hears}
+use Rattle.cg_model.specs.Hearing.{hear_delivery}
+use Rattle.cg_model.specs.HearingLaws.{reg_prim_hears, trans_prim_hears}
 use Rattle.cg_replica.specs.Seen.{prim_seen, turn_of}
 use Rattle.cg_replica.proofs.prim.hear.Goals as goal
 

@@ -1,5 +1,5 @@
 use Rattle.std.proofs.Common.{◌≡◌, Some, drop}
-use Rattle.cg_commit.specs.Holds.{Holds}
+use Rattle.cg_disk_records.specs.Holds.{Holds}
 use Rattle.cg_store.specs.Repeating.{IsRecent}
 use Rattle.cg_store.specs.Stands.{led_by_all}
 use Rattle.cg_store.proofs.finding.follow_all.Given as goal

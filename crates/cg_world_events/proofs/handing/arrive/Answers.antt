@@ -1,9 +1,9 @@
 use Rattle.std.proofs.Common.{◌≡◌, ℕ, [], IfOk, sym, ap, subst, ◌∙◌}
 use Rattle.cg_disk.specs.Model.{view_of}
 use Rattle.cg_model.specs.World.{Node}
-use Rattle.cg_world_node.specs.Calls.{risen}
-use Rattle.cg_world_node.specs.CrashedDisk.{IsCrashedDisk}
-use Rattle.cg_world_node.specs.Seen.{down_seen}
+use Rattle.cg_world_events.specs.Calls.{risen}
+use Rattle.cg_world_events.specs.CrashedDisk.{IsCrashedDisk}
+use Rattle.cg_world_events.specs.Seen.{down_seen}
 use Rattle.cg_world_events.proofs.Arriving.{joined-rests, arrives}
 use Rattle.cg_world_events.proofs.handing.arrive.Goals as goal
 

@@ -1,6 +1,6 @@
 use Rattle.std.proofs.Common.{◌≡◌, IfOk, Option, Some, IfSome, sym, ap, subst, ◌∙◌}
 use Rattle.std.specs.Option.{option_copied}
-use Rattle.cg_commit.specs.Holds.{Holds}
+use Rattle.cg_disk_records.specs.Holds.{Holds}
 use Rattle.cg_model.specs.World.{replica_of}
 use Rattle.cg_world_events.proofs.CopiedParts.{held-copied, none-copied}
 use Rattle.cg_world_events.proofs.handing.copy_of.Goals as goal

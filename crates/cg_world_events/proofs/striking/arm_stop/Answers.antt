@@ -1,5 +1,5 @@
 use Rattle.std.proofs.Common.{◌≡◌, sym, subst}
-use Rattle.cg_commit.specs.Crash.{StopWith}
+use Rattle.cg_disk_records.specs.Crash.{StopWith}
 use Rattle.cg_model.specs.World.{NodeState, World, set_life}
 use Rattle.cg_world_events.specs.contracts.state.WorldState.{the_view}
 use Rattle.cg_world_events.proofs.StruckNodes.{arm-done}

@@ -1,6 +1,6 @@
 use Rattle.std.proofs.Common.{◌≡◌, ◌∙◌, OnOk, ap, subst}
 use Rattle.cg_model.specs.World.{World, Node}
-use Rattle.cg_world_node.specs.Calls.{crashed}
+use Rattle.cg_world_events.specs.Calls.{crashed}
 use Rattle.cg_world_events.specs.StepInProgress.{fallen, hosted}
 use Rattle.cg_world_events.proofs.StruckNodes.{crashed-id}
 use Rattle.cg_world_events.proofs.striking.fall.Goals as goal

@@ -1,5 +1,5 @@
 use Rattle.std.proofs.Common.{ap, ◌∙◌, refl}
-use Rattle.cg_world_node.specs.Calls.{risen}
+use Rattle.cg_world_events.specs.Calls.{risen}
 use Rattle.cg_world_events.proofs.striking.rise.Goals as goal
 
 pub returns : goal.returns

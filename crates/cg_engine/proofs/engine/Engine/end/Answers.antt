@@ -1,4 +1,4 @@
-use Rattle.cg_commit.specs.Commit.{commits}
+use Rattle.cg_disk_records.specs.Commit.{commits}
 use Rattle.cg_replica.specs.Seen.{turn_of}
 use Rattle.cg_engine.proofs.engine.Engine.end.Goals as goal
 

@@ -1,5 +1,5 @@
 use Rattle.std.proofs.Common.{Ok, Err, refl, subst}
-use Rattle.cg_commit.specs.Commit.{commits}
+use Rattle.cg_disk_records.specs.Commit.{commits}
 use Rattle.cg_replica.specs.Seen.{turn_of}
 use Rattle.cg_engine.specs.Answers.{EndsEvent}
 use Rattle.cg_engine.specs.declared.answers.Handled.{Handled}

@@ -1,5 +1,5 @@
 use Rattle.std.proofs.Common.{◌≡◌, fold, take}
-use Rattle.cg_replica_step.specs.Hearing.{hear_delivery}
+use Rattle.cg_model.specs.Hearing.{hear_delivery}
 use Rattle.cg_replica.specs.Seen.{turn_of}
 use Rattle.cg_replica.proofs.replica.Replica.hear_all.Given as goal
 

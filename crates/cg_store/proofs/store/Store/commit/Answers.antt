@@ -1,7 +1,7 @@
 use Rattle.std.proofs.Common.{Err, sym, subst}
 use Rattle.cg_client.specs.Drafts.{turn_with}
 use Rattle.cg_client.specs.Replica.{Left}
-use Rattle.cg_commit.specs.Commit.{commits}
+use Rattle.cg_disk_records.specs.Commit.{commits}
 use Rattle.cg_store.specs.Stands.{committed}
 use Rattle.cg_store.specs.StoreState.{StoreState}
 use Rattle.cg_store.specs.declared.outputs.Outputs.{Outputs}

@@ -1,5 +1,5 @@
 use Rattle.std.proofs.Common.{◌≡◌, [], ap, ◌∙◌}
-use Rattle.cg_commit.specs.Holds.{run_on}
+use Rattle.cg_disk_records.specs.Holds.{run_on}
 use Rattle.cg_world.proofs.state.World.place_of.Goals as goal
 
 pub last_place-requires : goal.last_place-requires

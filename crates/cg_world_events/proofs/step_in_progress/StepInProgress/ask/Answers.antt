@@ -1,6 +1,6 @@
 use Rattle.std.proofs.Common.{◌≡◌, OnOk, subst}
 use Rattle.cg_client.specs.Calls.{kind_of}
-use Rattle.cg_replica_step.specs.Step.{Asks}
+use Rattle.cg_model.specs.ReplicaStep.{Asks}
 use Rattle.cg_model.specs.Show.{StepInProgress}
 use Rattle.cg_world_events.proofs.HandFacts.{nobody-hands, node-hands, node-booked}
 use Rattle.cg_world_events.proofs.step_in_progress.StepInProgress.ask.Goals as goal

@@ -1,5 +1,5 @@
 use Rattle.std.proofs.Common.{◌≡◌, OnOk, subst}
-use Rattle.cg_replica_step.specs.Step.{Deliveries}
+use Rattle.cg_model.specs.ReplicaStep.{Deliveries}
 use Rattle.cg_model.specs.Show.{StepInProgress}
 use Rattle.cg_world_events.proofs.HandFacts.{nobody-hands, node-hands, node-booked}
 use Rattle.cg_world_events.proofs.step_in_progress.StepInProgress.deliver.Goals as goal

@@ -1,0 +1,127 @@
+-- The made actions of names: each is the one of its name, and where all names were shown as made, they have these names.
+use Rattle.std.proofs.Common.{◌≡◌, true, false, List, [], ◌∷◌, ◌++◌, map, flat_map, take, Option, Some, None, refl, sym, ap, ap₂, ◌∙◌, inl, inr, append_assoc, append-nil}
+use Rattle.std.proofs.lemmas.Bool.{cases_Bool, cond-true, cond-false, or_cases}
+use Rattle.std.proofs.lemmas.List.{map-append}
+use Rattle.cg_group.specs.EachLaws.{Each, Each-append}
+use Rattle.cg_base.specs.declared.action_id.ActionId.{ActionId}
+use Rattle.cg_base.specs.Ids.{same_id, names}
+use Rattle.cg_base.specs.Lists.{present}
+use Rattle.cg_base.specs.IdLaws.{same_id-is, same_id-back}
+use Rattle.cg_action.specs.declared.action.Action.{Action}
+use Rattle.cg_queue.specs.Queue.{names_of}
+use Rattle.cg_report.specs.declared.entry.Made.{Made}
+use Rattle.cg_report.specs.declared.line.UpLine.{UpLine}
+use Rattle.cg_model.specs.Run.{Step}
+use Rattle.cg_model.specs.Shown.{made_names, made_at, made_from, made_action, made_actions, order_of, ordered_actions}
+use Rattle.cg_model.specs.Agreement.{through, known_actions}
+use Rattle.cg_agree_lemmas.specs.BookGrows.{named_in}
+use Rattle.cg_agree_lemmas.specs.HandSays.{find-holds}
+use Rattle.cg_items_agree.proofs.SameCells.{AreOf}
+
+-- ---- each is the one of its name
+
+pub action-name : (steps : List Step) (id : ActionId) (a : Action) → made_action steps id ≡ Some a → a.id ≡ id
+action-name steps id a e = same_id-is a.id id (find-holds (λ (a : Action). same_id a.id id) (made_from [] steps) a e)
+
+pub made-own : (steps : List Step) (ids : List ActionId) → AreOf (made_action steps) (made_actions steps ids)
+made-own steps [] = tt
+made-own steps (id ∷ ids) = at (made_action steps id) refl (made-own steps ids) where
+  at : (o : Option Action) → made_action steps id ≡ o → AreOf (made_action steps) (made_actions steps ids) →
+      AreOf (made_action steps) (present (o ∷ map (made_action steps) ids))
+  at None e rest = rest
+  at (Some a) e rest = (ap (made_action steps) (action-name steps id a e) ∙ e, rest)
+
+pub known-own : (steps : List Step) (up : UpLine) → AreOf (made_action steps) (known_actions steps up)
+known-own steps up =
+    Each-append (λ a. made_action steps a.id ≡ Some a) (ordered_actions steps up.view.green_count) (made_actions steps (up.view.yellow.list ++ up.view.reds))
+    (made-own steps (take up.view.green_count (order_of steps))) (made-own steps (up.view.yellow.list ++ up.view.reds))
+
+-- ---- the names of what was made
+
+names-at : (steps : List Step) (made : List Made) → names_of (map (made_at steps) made) ≡ map (λ m. m.id) made
+names-at steps [] = refl
+names-at steps (m ∷ made) = ap (λ ids. m.id ∷ ids) (names-at steps made)
+
+pub names-from : (earlier steps : List Step) → names_of (made_from earlier steps) ≡ made_names steps
+names-from earlier [] = refl
+names-from earlier (s ∷ steps) =
+    map-append (λ (a : Action). a.id) (map (made_at (earlier ++ s ∷ [])) s.entry.made) (made_from (earlier ++ s ∷ []) steps)
+    ∙ ap₂ ◌++◌ (names-at (earlier ++ s ∷ []) s.entry.made) (names-from (earlier ++ s ∷ []) steps)
+    ∙ sym (map-append (λ (m : Made). m.id) s.entry.made (flat_map (λ (s : Step). s.entry.made) steps))
+
+-- a name that stands in a list is found there
+pub record IsFoundIn (list : List Action) (id : ActionId) : Type 0 where
+  pub action : Action
+  pub found : named_in list id ≡ Some action
+  pub name : action.id ≡ id
+
+pub found-there : (list : List Action) (id : ActionId) → names (names_of list) id ≡ true → IsFoundIn list id
+found-there [] id is = absurd (let clash : false ≡ true = is in cc)
+found-there (a ∷ list) id is = elim (cases_Bool (same_id a.id id)) [
+  | inl here ↦ record {
+    action = a;
+    found = cond-true (same_id a.id id) (Some a) (named_in list id) here;
+    name = same_id-is a.id id here;
+  }
+  | inr other ↦
+      let rest = found-there list id (elim (or_cases (same_id id a.id) (names (names_of list) id) is) [
+        | inl here ↦ absurd (let self = same_id-back id a.id here in let clash : true ≡ false = sym self ∙ other in cc)
+        | inr later ↦ later
+      ]) in
+      record {
+        action = rest.action;
+        found = cond-false (same_id a.id id) (Some a) (named_in list id) other ∙ rest.found;
+        name = rest.name;
+      }
+]
+
+pub record IsMadeAs (steps : List Step) (id : ActionId) : Type 0 where
+  pub action : Action
+  pub found : made_action steps id ≡ Some action
+  pub name : action.id ≡ id
+
+pub made-as : (steps : List Step) (id : ActionId) → names (made_names steps) id ≡ true → IsMadeAs steps id
+made-as steps id shown =
+    let is = found-there (made_from [] steps) id (ap (λ ids. names ids id) (names-from [] steps) ∙ shown) in
+    record { action = is.action; found = is.found; name = is.name }
+
+pub made-names : (steps : List Step) (ids : List ActionId) → Each (λ id. names (made_names steps) id ≡ true) ids →
+    names_of (made_actions steps ids) ≡ ids
+made-names steps [] each = refl
+made-names steps (id ∷ ids) each =
+    let is = made-as steps id each.0 in
+    ap (λ (o : Option Action). names_of (present (o ∷ map (made_action steps) ids))) is.found
+    ∙ ap₂ (λ (x : ActionId) (xs : List ActionId). x ∷ xs) is.name (made-names steps ids each.1)
+
+-- ---- one step more
+
+pub made-last : (before steps : List Step) (s : Step) → made_from before (through steps s) ≡ made_from before steps ++ map (made_at (through (before ++ steps) s)) s.entry.made
+made-last before [] s =
+    append-nil (map (made_at (through before s)) s.entry.made) ∙ ap (λ (xs : List Step). map (made_at (through xs s)) s.entry.made) (sym (append-nil before))
+made-last before (x ∷ steps) s =
+    ap (λ list. map (made_at (through before x)) x.entry.made ++ list) (made-last (through before x) steps s
+    ∙ ap (λ (xs : List Step). made_from (through before x) steps ++ map (made_at (through xs s)) s.entry.made) (append_assoc before (x ∷ []) steps))
+    ∙ sym (append_assoc (map (made_at (through before x)) x.entry.made) (made_from (through before x) steps) (map (made_at (through (before ++ x ∷ steps) s)) s.entry.made))
+
+-- what was made stays as it was made
+made-both : (before a b : List Step) → made_from before (a ++ b) ≡ made_from before a ++ made_from (before ++ a) b
+made-both before [] b = ap (λ (xs : List Step). made_from xs b) (sym (append-nil before))
+made-both before (s ∷ a) b =
+    let first = map (made_at (through before s)) s.entry.made in
+    ap (λ list. first ++ list) (made-both (through before s) a b ∙ ap (λ (xs : List Step). made_from (through before s) a ++ made_from xs b) (append_assoc before (s ∷ []) a))
+    ∙ sym (append_assoc first (made_from (through before s) a) (made_from (before ++ s ∷ a) b))
+
+found-more : (xs ys : List Action) (id : ActionId) (a : Action) → named_in xs id ≡ Some a →
+    named_in (xs ++ ys) id ≡ Some a
+found-more [] ys id a e = absurd (let clash : None ≡ Some a = e in cc)
+found-more (x ∷ xs) ys id a e = elim (cases_Bool (same_id x.id id)) [
+  | inl here ↦ cond-true (same_id x.id id) (Some x) (named_in (xs ++ ys) id) here ∙ sym (cond-true (same_id x.id id) (Some x) (named_in xs id) here) ∙ e
+  | inr other ↦ cond-false (same_id x.id id) (Some x) (named_in (xs ++ ys) id) other ∙ found-more xs ys id a (sym (cond-false (same_id x.id id) (Some x) (named_in xs id) other) ∙ e)
+]
+
+pub own-later : (a b : List Step) (list : List Action) → AreOf (made_action a) list → AreOf (made_action (a ++ b)) list
+own-later a b [] each = tt
+own-later a b (x ∷ list) each = (
+  ap (λ (xs : List Action). named_in xs x.id) (made-both [] a b) ∙ found-more (made_from [] a) (made_from a b) x.id x each.0,
+  own-later a b list each.1,
+)

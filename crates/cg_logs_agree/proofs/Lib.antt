@@ -1,2 +1,0 @@
-mod AtPlaces
-mod OneOrder

@@ -1,5 +1,0 @@
-use Rattle.cg_logs_agree.proofs.OneOrder.{logs-of-run}
-use Rattle.cg_logs_agree.proofs.laws.shown_logs_agree.Goals as goal
-
-pub returns : goal.returns
-returns c = logs-of-run c.runs_agree.ensures c.agreement_gives_guarantees.ensures c.logs_of_one_order_agree.ensures

@@ -1,4 +1,0 @@
-pub mod Keeping
-pub mod Naming
-pub mod Lines
-pub mod Weighing

@@ -1,5 +1,0 @@
-mod Near
-mod Best
-mod Joined
-mod Knowing
-mod Planning

@@ -1,0 +1,39 @@
+-- What is seen of a replica with its disk, where it is known what the disk stands for and tells.
+use Rattle.std.specs.Prelude.{◌≡◌, List, ℕ, [], Some, unwrap_or}
+use Rattle.std.proofs.Common.{ap, ◌∙◌}
+use Rattle.cg_disk.specs.Crashes.{clean_disk}
+use Rattle.cg_disk.specs.State.{DiskState}
+use Rattle.cg_disk.specs.View.{DiskView}
+use Rattle.cg_client.specs.Replica.{fresh_held}
+use Rattle.cg_store.specs.Stands.{OnDisk, Stands, created, disk_of}
+use Rattle.cg_engine.specs.Engines.{Up as UpEngine, Fallen, told}
+use Rattle.cg_engine.specs.Defined.{account}
+use Rattle.cg_world_events.specs.Seen.{standing_at, state_at, disk_seen, disk_left, green_left}
+
+pub standing-at : {D : Type 0} → (view : D → DiskView) → (id : ℕ) (disk : D) (u : OnDisk) →
+    Stands id (view disk).reads u → standing_at id (view disk).reads ≡ u
+standing-at view id disk u stands = ap (λ found. unwrap_or found (created (fresh_held 1 []))) stands
+
+pub state-at : {D : Type 0} → (view : D → DiskView) → (disk : D) (s : DiskState) → (view disk).state ≡ Some s →
+    state_at (view disk) ≡ s
+state-at view disk s told = ap (λ found. unwrap_or found (clean_disk (view disk).reads)) told
+
+pub disk-seen : {D : Type 0} → (view : D → DiskView) → (e : UpEngine D) (fill : List ℕ) (u : OnDisk) (s : DiskState) →
+    Stands e.store.id (view e.store.disk).reads u → (view e.store.disk).state ≡ Some s →
+    disk_seen view e fill ≡ account e.store.unwritten u (view e.store.disk).time fill s
+unfolding disk_seen
+disk-seen view e fill u s stands told =
+    ap (λ (x : OnDisk). account e.store.unwritten x (view e.store.disk).time fill (state_at (view e.store.disk)))
+    (standing-at view e.store.id e.store.disk u stands)
+    ∙ ap (λ (x : DiskState). account e.store.unwritten u (view e.store.disk).time fill x) (state-at
+    view e.store.disk s told)
+
+pub disk-left : {D : Type 0} → (view : D → DiskView) → (w : Fallen D) (u : OnDisk) → Stands w.id (view w.disk).reads u →
+    disk_left view w ≡ disk_of [] u
+unfolding disk_left
+disk-left view w u stands = ap (λ (x : OnDisk). disk_of [] x) (standing-at view w.id w.disk u stands)
+
+pub green-left : {D : Type 0} → (view : D → DiskView) → (w : Fallen D) (u : OnDisk) →
+    Stands w.id (view w.disk).reads u → green_left view w ≡ told w u.content
+unfolding green_left
+green-left view w u stands = ap (λ (x : OnDisk). told w x.content) (standing-at view w.id w.disk u stands)

@@ -1,0 +1,148 @@
+//! Strikes are armed, a replica goes down, and it comes up again.
+ghost use Rattle.std.specs.Prelude.{◌≡◌, ◌≤◌, List, ℕ, [], Some, IfOk};
+ghost use Rattle.cg_disk_records.specs.Crash.{FailOnce, StopWith};
+ghost use Rattle.cg_model.specs.Show.{news_of_recovery};
+ghost use Rattle.cg_world_events.specs.Calls.{armed, crashed, risen};
+ghost use Rattle.cg_world_events.specs.CrashedDisk.{IsCrashedDisk};
+ghost use Rattle.cg_world_events.specs.Seen.{up_seen, down_seen};
+
+use crate::crashed_disk::CrashedDisk;
+use crate::limits::CALLS_BEFORE_CRASH;
+use crate::node_state::NodeState;
+use crate::{EventEffects, Node};
+use cg_base::{Bytes, Cut, IdList, NoMemory, ReplicaId, Row};
+use cg_disk::{Disk, ModelDisk};
+use cg_engine::{Engine, Recovered, Wreck};
+use std::alloc::Global;
+
+impl Node {
+    /// Arms the device call of this number, from 1 for the next one, to fail once, where the replica is up.
+    pub fn fail_at(&mut self, call: u64)
+        requires { 1 ≤ call }
+        ensures { self.new ≡ armed self.old.id (record { call = call; fault = FailOnce }) self.old.life }
+    {
+        match &mut self.life {
+            NodeState::Up { engine, .. } => engine.fail_at(call),
+            NodeState::Down(_) => {}
+        }
+    }
+
+    /// Arms a crash in the device call of this number, from 1 for the next one, with the bytes that it leaves in places
+    /// that weren't synced, where the replica is up.
+    pub fn stop_at(&mut self, call: u64, fill: Bytes)
+        requires { 1 ≤ call }
+        ensures { self.new ≡ armed self.old.id (record { call = call; fault = StopWith fill }) self.old.life }
+    {
+        match &mut self.life {
+            NodeState::Up {
+                engine,
+                fill: before,
+            } => {
+                engine.stop_at(call);
+                *before = fill;
+            }
+            NodeState::Down(_) => drop(fill),
+        }
+    }
+
+    /// A crash now, where it is up. `NoMemory` too where its disk has made so many calls that those of a recovery might go
+    /// past 2^62.
+    pub fn crash(self) -> Result<Node, NoMemory>
+        ensures { IfOk result (λ s. s ≡ crashed self.id self.life) }
+    {
+        match self.into_life() {
+            NodeState::Up { engine, fill } => {
+                drop(fill);
+                stop(engine)
+            }
+            NodeState::Down(resting) => Ok(Node::down(resting)),
+        }
+    }
+
+    /// It comes up with what stands on its disk, where it is down; with what is to be shown of that, where actions up to
+    /// this cut were shown as made.
+    pub fn recover(
+        self,
+        alloc: Global,
+        made: &Cut,
+    ) -> Result<(Node, Option<EventEffects>), NoMemory>
+        ensures { IfOk result (λ x. x ≡ risen made.now self.id self.life) }
+    {
+        match self.into_life() {
+            NodeState::Up { engine, fill } => Ok((Node::up(engine, fill), None)),
+            NodeState::Down(resting) => rise(alloc, resting, made),
+        }
+    }
+
+    /// The replica of a disk is up with what stands there, where the disk stands for a state, with nothing unsynced on it and
+    /// nothing armed. Nothing is to be shown of that.
+    pub fn from_disk(alloc: Global, disk: ModelDisk, id: ReplicaId) -> Result<Node, NoMemory>
+        requires { IsCrashedDisk (⟦<ModelDisk as Disk>⟧.view disk) id }
+        ensures { IfOk result (λ s. s ≡
+            (risen [] id (down_seen (⟦<ModelDisk as Disk>⟧.view) (record {
+              disk = disk;
+              id = id;
+              count = 0;
+              green = [];
+            })).life).0) }
+    {
+        let resting = CrashedDisk::new(Wreck::new(alloc, disk, id));
+        let (node, news) = Node::down(resting).recover(alloc, &Cut::zero())?;
+        drop(news);
+        Ok(node)
+    }
+}
+
+// A crash of an engine between two events.
+fn stop(engine: Engine<ModelDisk>) -> Result<Node, NoMemory>
+    ensures { IfOk result (λ s. (fill : List ℕ) →
+        s ≡ crashed engine.store.id (up_seen (⟦<ModelDisk as Disk>⟧.view) engine fill).life) }
+{
+    if engine.calls() > CALLS_BEFORE_CRASH {
+        drop(engine);
+        return Err(NoMemory);
+    }
+    // its clauses say that the disk stands for a state, with nothing unsynced
+    let _id = engine.id();
+    Node::fall(engine.stop(), &[])
+}
+
+// An engine comes up from a disk that stands for a state.
+fn rise(
+    alloc: Global,
+    resting: CrashedDisk,
+    made: &Cut,
+) -> Result<(Node, Option<EventEffects>), NoMemory>
+    ensures { IfOk result (λ x. x ≡ risen made.now resting.id (down_seen (⟦<ModelDisk as Disk>⟧.view) resting).life) }
+{
+    match Engine::recover(alloc, resting.into_wreck()) {
+        Recovered::Running { engine, green } => go_up(engine, green, made),
+        Recovered::Down(_) => unreachable!(),
+        Recovered::NotAStore(_) => unreachable!(),
+        Recovered::NoMemory(wreck) => {
+            drop(wreck);
+            Err(NoMemory)
+        }
+    }
+}
+
+// The engine that has come up, and what is to be shown of that.
+fn go_up(
+    engine: Engine<ModelDisk>,
+    green: IdList,
+    made: &Cut,
+) -> Result<(Node, Option<EventEffects>), NoMemory>
+    ensures { IfOk result (λ x. x ≡ (
+      up_seen (⟦<ModelDisk as Disk>⟧.view) engine [],
+      Some (news_of_recovery made.now engine.replica.held green),
+    )) }
+{
+    let alloc = engine.core().alloc();
+    match EventEffects::of_recovery(made, engine.core(), green) {
+        Ok(news) => Ok((Node::up(engine, Row::new(alloc)), Some(news))),
+        Err(_) => {
+            drop(engine);
+            Err(NoMemory)
+        }
+    }
+}

@@ -1,0 +1,170 @@
+//! A replica comes up for the first time, and takes an event.
+ghost use Rattle.std.specs.Prelude.{◌≡◌, ◌+◌, ◌≤◌, IfOk, Some, None};
+ghost use Rattle.cg_base.specs.declared.limits.TheConstants.{COUNT_LIMIT};
+ghost use Rattle.cg_action.specs.Limits.{IsKind};
+ghost use Rattle.cg_action.specs.declared.action.Action.{Action};
+ghost use Rattle.cg_base.specs.declared.action_id.ActionId.{ActionId};
+ghost use Rattle.cg_client.specs.Calls.{kind_of};
+ghost use Rattle.cg_replica.specs.Inputs.{input_of, HasLimits};
+ghost use Rattle.cg_model.specs.Recorded.{AreBooked};
+ghost use Rattle.cg_model.specs.ReplicaStep.{Deliveries, Asks};
+ghost use Rattle.cg_model.specs.World.{Up};
+ghost use Rattle.cg_world_events.specs.Calls.{begun, taken, IsBookedFor};
+ghost use Rattle.cg_store.specs.Stands.{OnDisk};
+ghost use Rattle.cg_world_events.specs.Seen.{disk_seen, up_seen, FallsTo, fallen, said};
+ghost use Rattle.cg_world_events.specs.declared.limits.TheConstants.{EVENT_CALLS, RECOVERY_CALLS};
+
+use crate::limits::CALLS_BEFORE_EVENT;
+use crate::node_state::NodeState;
+use crate::{EventEffects, Node, NodeOutput};
+use cg_base::{Bytes, NoMemory, ReplicaId, Row, WeightSet};
+use cg_client::Request;
+use cg_disk::{Disk, ModelDisk};
+use cg_disk_records::what_is_held_agrees;
+use cg_encoded::{EncodedMsg, open_all};
+use cg_engine::{Engine, Handled, Input, Outputs, Started, Wreck, events_end_as_defined};
+use cg_group::Delivery;
+use cg_model::each_event_keeps_what_holds;
+use cg_store::strikes_end_as_defined;
+use cg_wire::messages_are_exact;
+use std::alloc::Global;
+
+impl Node {
+    /// A new replica, alone, among these servers, on an empty disk.
+    pub fn begin(alloc: Global, id: ReplicaId, servers: &WeightSet) -> Result<Node, NoMemory>
+        ensures { IfOk result (λ s. s ≡ begun servers.now id) }
+    {
+        strikes_end_as_defined();
+        match Engine::start(alloc, ModelDisk::new(alloc), id, servers) {
+            Started::Running { engine } => Ok(Node::up(engine, Row::new(alloc))),
+            Started::Down(_) => unreachable!(),
+            Started::NoMemory(wreck) => {
+                drop(wreck);
+                Err(NoMemory)
+            }
+        }
+    }
+
+    /// Deliveries come to it, in their order, and then it creates the requests that it kept. `NoMemory` too where its
+    /// disk has made so many calls that those of an event and of a recovery might go past 2^62.
+    pub fn deliver(
+        self,
+        list: Row<Delivery<EncodedMsg>>,
+    ) -> Result<(Node, Option<NodeOutput>), NoMemory>
+        requires { IsBookedFor self.life (Deliveries list) }
+        ensures { IfOk result (λ x. x ≡ taken self.id (Deliveries list) self.life) }
+    {
+        match self.into_life() {
+            NodeState::Up { engine, fill } => deliver_to(engine, fill, list),
+            NodeState::Down(resting) => {
+                drop(list);
+                Ok((Node::down(resting), None))
+            }
+        }
+    }
+
+    /// A request comes to it. `NoMemory` as of `deliver`.
+    pub fn ask(self, request: Request) -> Result<(Node, Option<NodeOutput>), NoMemory>
+        requires limits { IsKind (kind_of request) }
+        requires booked { IsBookedFor self.life (Asks (kind_of request)) }
+        ensures { IfOk result (λ x. x ≡ taken self.id (Asks (kind_of request)) self.life) }
+    {
+        match self.into_life() {
+            NodeState::Up { engine, fill } => take(engine, fill, Input::Request(request)),
+            NodeState::Down(resting) => {
+                drop(request);
+                Ok((Node::down(resting), None))
+            }
+        }
+    }
+}
+
+// Deliveries come to an engine.
+fn deliver_to(
+    engine: Engine<ModelDisk>,
+    fill: Bytes,
+    list: Row<Delivery<EncodedMsg>>,
+) -> Result<(Node, Option<NodeOutput>), NoMemory>
+    requires { (book : ActionId → Action) × AreBooked book engine.replica.held (Deliveries list) }
+    ensures { IfOk result (λ x. x ≡ taken
+        engine.store.id (Deliveries list) (Up engine.replica (disk_seen (⟦<ModelDisk as Disk>⟧.view) engine fill))) }
+{
+    messages_are_exact();
+    match open_all(engine.core().alloc(), list) {
+        Ok(all) => take(engine, fill, Input::Deliver(all)),
+        Err(_) => {
+            drop(engine);
+            drop(fill);
+            Err(NoMemory)
+        }
+    }
+}
+
+// An event comes to an engine, where there is room for its device calls and those of a recovery.
+fn take(
+    engine: Engine<ModelDisk>,
+    fill: Bytes,
+    input: Input,
+) -> Result<(Node, Option<NodeOutput>), NoMemory>
+    requires limits { HasLimits input }
+    requires booked { (book : ActionId → Action) × AreBooked book engine.replica.held (input_of input) }
+    ensures { IfOk result (λ x. x ≡ taken
+        engine.store.id (input_of input) (Up engine.replica (disk_seen (⟦<ModelDisk as Disk>⟧.view) engine fill))) }
+{
+    if engine.calls() > CALLS_BEFORE_EVENT {
+        drop(engine);
+        drop(fill);
+        drop(input);
+        return Err(NoMemory);
+    }
+    handle(engine, fill, input)
+}
+
+// An event comes to an engine.
+fn handle(
+    engine: Engine<ModelDisk>,
+    fill: Bytes,
+    input: Input,
+) -> Result<(Node, Option<NodeOutput>), NoMemory>
+    requires calls { (⟦<ModelDisk as Disk>⟧.view engine.store.disk).time + EVENT_CALLS + RECOVERY_CALLS ≤ COUNT_LIMIT }
+    requires limits { HasLimits input }
+    requires booked { (book : ActionId → Action) × AreBooked book engine.replica.held (input_of input) }
+    ensures { IfOk result (λ x. x ≡ taken
+        engine.store.id (input_of input) (Up engine.replica (disk_seen (⟦<ModelDisk as Disk>⟧.view) engine fill))) }
+{
+    events_end_as_defined();
+    what_is_held_agrees();
+    each_event_keeps_what_holds();
+    // its clause says that the disk stands for a state that the replica follows
+    let _id = engine.id();
+    match engine.handle(input) {
+        Handled::Running { engine, outputs } => Ok(go_on(engine, fill, outputs)),
+        Handled::Down(wreck) => fall(wreck, fill),
+        Handled::NoMemory(wreck) => {
+            drop(wreck);
+            drop(fill);
+            Err(NoMemory)
+        }
+    }
+}
+
+// The replica goes on behind an event, and says what came of it.
+fn go_on(engine: Engine<ModelDisk>, fill: Bytes, outputs: Outputs) -> (Node, Option<NodeOutput>)
+    ensures { result ≡ (up_seen (⟦<ModelDisk as Disk>⟧.view) engine fill, Some (said outputs engine.replica.held)) }
+{
+    let (made, sent, replies, green) = outputs.into_parts();
+    let count = engine.core().green_count();
+    let news = EventEffects::new(made, green, count, replies);
+    (Node::up(engine, fill), Some(NodeOutput::new(news, sent)))
+}
+
+// The event ended in its crash.
+fn fall(wreck: Wreck<ModelDisk>, fill: Bytes) -> Result<(Node, Option<NodeOutput>), NoMemory>
+    requires falls { (u : OnDisk) × FallsTo (⟦<ModelDisk as Disk>⟧.view) wreck fill u }
+    requires room { (⟦<ModelDisk as Disk>⟧.view wreck.disk).time + RECOVERY_CALLS ≤ COUNT_LIMIT }
+    ensures { IfOk result (λ x. (u : OnDisk) → FallsTo (⟦<ModelDisk as Disk>⟧.view) wreck fill u →
+        x ≡ (fallen wreck u, None)) }
+{
+    let node = Node::fall(wreck, fill.as_slice())?;
+    Ok((node, None))
+}

@@ -1,6 +1,0 @@
-pub mod Calls
-pub mod CrashedDisk
-pub mod RestingLaws
-pub mod Seen
-pub mod SeenLaws
-pub mod Looks
