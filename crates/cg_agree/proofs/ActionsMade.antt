@@ -4,7 +4,7 @@ use Rattle.std.specs.Prelude.{◌==◌}
 use Rattle.std.specs.Option.{option_map_or}
 use Rattle.std.proofs.lemmas.Bool.{cases_eq, cond-true, cond-false, ne_eqb}
 use Rattle.std.proofs.lemmas.List.Elements.{Contains-append_left}
-use Rattle.cg_group.specs.EachLaws.{Each}
+use Rattle.cg_base.specs.Lists.{Each}
 use Rattle.cg_group.specs.State.{phase_of}
 use Rattle.cg_base.specs.declared.action_id.ActionId.{ActionId}
 use Rattle.cg_base.specs.Cuts.{index_in, raise}
@@ -36,13 +36,14 @@ use Rattle.cg_disk_records.specs.Holds.{run_on, cut_behind, Rising}
 use Rattle.cg_agree.proofs.EventsLead.{are-admitted, always-stands}
 use Rattle.cg_agree.proofs.LinesShown.{ArePrinted, each-find, lines-on}
 use Rattle.cg_agree_lemmas.specs.MadeShown.{IsThere, Adds, names_in}
-use Rattle.cg_agree.proofs.MadeTold.{each-contains, found-in, step-adds}
+use Rattle.cg_agree.proofs.MadeTold.{found-in, step-adds}
 use Rattle.cg_agree.proofs.PrimaryOne.{holds-here}
 use Rattle.cg_agree.proofs.RunForward.{IsStepOf}
 use Rattle.cg_agree_lemmas.specs.NodeFacts.{node-id}
 use Rattle.cg_agree.proofs.TellsRun.{HasTold, told-on, nothing-told}
 use Rattle.cg_disk_records.specs.CutRaiseLaws.{rising-raise, index-same, index-other}
 use Rattle.cg_disk_records.specs.RunMarkLaws.{run-head, run-rest}
+use Rattle.cg_base.specs.ElementLaws.{each-contains}
 
 -- ---- names that run on, of each creator
 

@@ -49,7 +49,7 @@ pub data Came (c d : Chronicle) (conf : ℕ) (b : Attempt) : Type 0 where
   WasMade : (none : attempt_of c conf ≡ None) (p : ℕ) (heard : List Summary) (r new : Replica) (begins : Begins c p conf heard r new) (greens : List Action)
       (now : b ≡ with_entrant new.held.id (new_attempt greens new.held (new_record conf heard r.held.id))) (moved : replica_of d.world p ≡ Some new) (handed : IsHanded c d p greens) → Came c d conf b
 
-some-is : {X : Type 0} (x y : X) → Some x ≡ Some y → x ≡ y
+pub some-is : {X : Type 0} (x y : X) → Some x ≡ Some y → x ≡ y
 some-is x y e = ap (λ o. option_map_or (λ z. z) o x) e
 
 pub ins-conf : (c : Chronicle) (p : ℕ) (r : Replica) (ins : Installing c p r) → ins.a.conf ≡ ins.conf

@@ -49,7 +49,7 @@ use Rattle.cg_agree_lemmas.specs.HandsNow.{HandsNow, hands-now, new, hand-turned
 use Rattle.cg_agree_lemmas.specs.InstallGreens.{ByAnnouncement, by-announcement, in-parting}
 use Rattle.cg_agree.proofs.InstalledParts.{waits-announced, oneself-before, installs-all}
 use Rattle.cg_agree_lemmas.specs.Knowledge.{known-of, some-sender}
-use Rattle.cg_agree.proofs.LevelsKept.{start-kept, installed-primary, leaves-attempts}
+use Rattle.cg_agree.proofs.LevelsKept.{start-kept, installed-primary, leaves-attempts, nothing-known}
 use Rattle.cg_agree_lemmas.specs.PartingActs.{PartedBy, parting-by}
 use Rattle.cg_agree_lemmas.specs.PlanEnd.{AtPlanEnd, is_behind, plan-end}
 use Rattle.cg_agree_lemmas.specs.ReachWorld.{level-kept}
@@ -160,15 +160,12 @@ hands-greens c p i n =
 
 -- ---- each small step
 
-nothing-begins : (Q : Held → List Action → Type 0) → OfCores no_chronicle Q
-nothing-begins Q = record { memory = λ p. tt; disk = λ p. tt; snapshot = λ joiner. tt }
-
 started : (c : Chronicle) (i : Invariant c) (set : List Weighted) → may_make c (Starts set) ≡ true → OfCores (small_step c (Starts set)) (Begins (small_step c (Starts set)))
 unfolding small_step may_make
 started c i set may =
     let empty = nothing-before c i.net.hosted (and_parts (is_nil c.world.nodes) (is_set (ids set)) may).0 in
     cores-kept (Begins (small_step c (Starts set))) c (Starts set) (ready-of c i.net.hosted i.replica.disk_behind) may (begins-closed (small_step c (Starts set))) (λ p. tt)
-    (subst (λ (x : Chronicle). OfCores x (Begins (small_step c (Starts set)))) (sym empty) (nothing-begins (Begins (small_step c (Starts set)))))
+    (subst (λ (x : Chronicle). OfCores x (Begins (small_step c (Starts set)))) (sym empty) (nothing-known (Begins (small_step c (Starts set)))))
 
 abbrev IsBegun : Chronicle → Held → List Action → Type 0
 IsBegun c h all = (h.prim.index ≤ top_of c) × Begins c h all

@@ -40,6 +40,7 @@ use Rattle.cg_agree_lemmas.specs.NextThere.{orders-now, receives-now}
 use Rattle.cg_agree_lemmas.specs.OneSteps.{OneStep, MayJoin, may-join, may-enter, begun-set, running-begun, turns-step, hands-step, leaves-step, enters-step, commits-step, copies-step, crashes-step, recovers-step, joins-step}
 use Rattle.cg_agree.proofs.PastKept.{EntersNow, enters-now, entry_told, told_in-enters}
 use Rattle.cg_agree_lemmas.specs.ToldKept.{told-same, told_in-same}
+use Rattle.cg_agree_lemmas.specs.CoresSmall.{nil-is}
 
 -- ---- what stands on disks
 
@@ -208,10 +209,6 @@ nothing-stood [] q = refl
 nothing-stood (p ∷ replicas) q =
     cond_both (p == q) (Some (new_past [] p)) (find (λ (x : Past). x.id == q) (map (new_past []) replicas)) (λ o. option_map_or (λ (x : Past). x.stood) o [] ≡ [])
     (λ y. refl) (λ n. nothing-stood replicas q)
-
-nil-is : {X : Type 0} (xs : List X) → is_nil xs ≡ true → xs ≡ []
-nil-is [] e = refl
-nil-is (x ∷ xs) e = absurd (let clash : false ≡ true = e in cc)
 
 server-starts : (c : Chronicle) (set : List Weighted) → c ≡ no_chronicle → (q : ℕ) → has_begun (start c set).world q ≡ true → was_ever (members_of set (stood_of (start c set) q)) q ≡ true
 server-starts c set is q = subst (λ (x : Chronicle). has_begun (start x set).world q ≡ true → was_ever (members_of set (stood_of (start x set) q)) q ≡ true) (sym is) (λ begun.

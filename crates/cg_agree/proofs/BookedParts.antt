@@ -40,11 +40,9 @@ use Rattle.cg_agree.proofs.ExchangeBehind.{message-now}
 use Rattle.cg_agree.proofs.ExchangeThere.{core}
 use Rattle.cg_agree_lemmas.specs.HandsNow.{HandsNow, new, running-now}
 use Rattle.cg_agree_lemmas.specs.MessageThere.{booked-at}
+use Rattle.cg_agree.proofs.AttemptsCame.{some-is}
 
 -- ---- actions of names
-
-some-is : {X : Type 0} (x y : X) → Some x ≡ Some y → x ≡ y
-some-is x y e = ap (λ o. option_map_or (λ z. z) o x) e
 
 -- of actions that are those of their names the names tell which they are
 pub same-booked : (c : Chronicle) (xs ys : List Action) → AreBooked c xs → AreBooked c ys → names_of xs ≡ names_of ys → xs ≡ ys

@@ -3,8 +3,7 @@ use Rattle.std.proofs.Common.{◌⊎◌, ◌≡◌, ℕ, zero, suc, ◌≤◌, m
 use Rattle.std.specs.Prelude.{◌==◌}
 use Rattle.std.specs.Option.{option_map_or}
 use Rattle.std.proofs.lemmas.Bool.{cases_lt, cond_both, eq-eqb, or_right}
-use Rattle.cg_group.specs.EachLaws.{Each}
-use Rattle.cg_base.specs.Lists.{greatest}
+use Rattle.cg_base.specs.Lists.{greatest, Each}
 use Rattle.cg_base.specs.Sets.{has}
 use Rattle.cg_base.specs.Cuts.{index_in}
 use Rattle.cg_action.specs.declared.action.Action.{Action}

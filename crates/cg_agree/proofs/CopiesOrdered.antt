@@ -24,7 +24,7 @@ use Rattle.cg_model.specs.Step.{joiner_replica, snapshot_for}
 use Rattle.cg_model.specs.World.{TransferState, World, has_begun, replica_of}
 use Rattle.cg_base.specs.declared.action_id.ActionId.{ActionId}
 use Rattle.cg_client.specs.Replica.{Held, Replica}
-use Rattle.cg_group.specs.EachLaws.{Each}
+use Rattle.cg_base.specs.Lists.{Each}
 use Rattle.cg_queue.specs.Queue.{green_count, names_of}
 
 -- what is held is made of a front of the order, of which the giver has all

@@ -60,6 +60,7 @@ use Rattle.cg_agree_lemmas.specs.HandsNow.{HandsNow, hands-now, found-now, runni
 use Rattle.cg_agree_lemmas.specs.RecordKept.{same-replica}
 use Rattle.cg_agree.proofs.LevelsKept.{start-kept}
 use Rattle.cg_disk_records.specs.Holds.{cut_behind}
+use Rattle.cg_agree_lemmas.specs.ActsWay.{drop-behind}
 
 -- the state of the transitional phase of a primary component, and of its regular one
 abbrev pub is_trans : State → Bool
@@ -70,14 +71,10 @@ abbrev is_reg : State → Bool
 is_reg RegPrim = true
 is_reg _ = false
 
-drop-front : {X : Type 0} (xs ys : List X) → drop (length xs) (xs ++ ys) ≡ ys
-drop-front [] ys = refl
-drop-front (x ∷ xs) ys = drop-front xs ys
-
 -- what grew in a turn is what is newly green
 grown-now : (start : List Weighted) (r new : Replica) (all : List Action) → Grows start r.held new.held all → IsOneself start new.held (all ++ newly_green r new)
 grown-now start r new all g =
-    subst (λ xs. IsOneself start new.held (all ++ xs)) (sym (ap (drop (length r.held.queue.greens)) g.kept ∙ drop-front r.held.queue.greens g.more)) g.is
+    subst (λ xs. IsOneself start new.held (all ++ xs)) (sym (ap (drop (length r.held.queue.greens)) g.kept ∙ drop-behind r.held.queue.greens g.more)) g.is
 
 -- ---- as a plan ends
 

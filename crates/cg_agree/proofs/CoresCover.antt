@@ -30,13 +30,12 @@ use Rattle.cg_model.specs.Facts.{Invariant}
 use Rattle.cg_model.specs.Small.{Small, Starts, Makes, Enters, Orders, Receives, Hands, Leaves, Asks, Settles, Commits, Crashes, Recovers, Copies, Joins, newly_green, coming, handed_next, leaving, take_newest, take_next, take_parting, take_request, newest_conf, copy_as, small_step}
 use Rattle.cg_model.specs.Smalls.{may_make, is_set}
 use Rattle.cg_agree_lemmas.specs.CoresKept.{IsHeldClosed, held-known, greens-turn, cores-weaker}
-use Rattle.cg_agree_lemmas.specs.CoresSmall.{StepKeeps, JoinsKeep, ready-of, cores-kept-given}
+use Rattle.cg_agree_lemmas.specs.CoresSmall.{StepKeeps, JoinsKeep, ready-of, cores-kept-given, nil-is}
 use Rattle.cg_agree.proofs.CoversStay.{ReachShrinks, start-covers}
 use Rattle.cg_agree.proofs.EndShown.{ToldCovers}
 use Rattle.cg_agree_lemmas.specs.EntryGreens.{nothing-new}
 use Rattle.cg_agree.proofs.ExchangeSmalls.{greens-settle, greens-request, replica-behind}
 use Rattle.cg_agree_lemmas.specs.HandsNow.{hands-now, hands-regular}
-use Rattle.cg_agree.proofs.LevelsOpen.{when-from}
 use Rattle.cg_agree_lemmas.specs.LivesRest.{own-rest}
 use Rattle.cg_agree_lemmas.specs.ModeHeld.{lists-settle, lists-request}
 use Rattle.cg_agree.proofs.NewestLevel.{newest-level, set-members}
@@ -49,6 +48,7 @@ use Rattle.cg_agree.proofs.ToldCover.{CoversWhere, covers-on}
 use Rattle.cg_agree.proofs.ToldLine.{Behind}
 use Rattle.cg_agree_lemmas.specs.TurnParts.{settle-quiet, request-quiet, parting-turned}
 use Rattle.cg_agree_lemmas.specs.TurnValues.{SameValues, even-own_to_red}
+use Rattle.cg_agree_lemmas.specs.ListStill.{when-from}
 
 -- a snapshot is taken for one who hasn't begun
 abbrev pub IsNewCopy : Chronicle → Small → Type 0
@@ -134,10 +134,6 @@ module _ (c : Chronicle) (s : Small) (i : Invariant c) (may : may_make c s ≡ t
   turn-covers p new all up greens is =
       let mode = subst (λ (o : Option Replica). IfSome o (IsModeData d p)) up (b.replica.mode_data p) in
       subst (CoreCovers d new.held) greens (subst (λ n. CoversWhere d n new.held.prim.index new.held.yellow_valid new.held.vulnerable (greens_of d p) new.held.queue.yellow) (sym mode.id) is)
-
-nil-is : {X : Type 0} (xs : List X) → is_nil xs ≡ true → xs ≡ []
-nil-is [] e = refl
-nil-is (x ∷ xs) e = absurd (let clash : false ≡ true = e in cc)
 
 -- ---- each turn
 

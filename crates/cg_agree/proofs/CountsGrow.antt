@@ -4,10 +4,10 @@ use Rattle.std.specs.Prelude.{◌==◌}
 use Rattle.std.specs.Option.{option_map_or}
 use Rattle.std.proofs.lemmas.Bool.{cases_eq, cond_both, cond-true, cond-false, ne_eqb}
 use Rattle.std.proofs.lemmas.List.{length-append, length-map}
-use Rattle.cg_group.specs.EachLaws.{Each, Each-has}
+use Rattle.cg_group.specs.EachLaws.{Each-has}
 use Rattle.cg_base.specs.declared.action_id.ActionId.{ActionId}
 use Rattle.cg_base.specs.declared.weighted.Weighted.{Weighted}
-use Rattle.cg_base.specs.Lists.{above_up_to}
+use Rattle.cg_base.specs.Lists.{above_up_to, Each}
 use Rattle.cg_base.specs.Sets.{has}
 use Rattle.cg_base.specs.Weights.{ids}
 use Rattle.cg_action.specs.declared.action.Action.{Action}
@@ -47,13 +47,13 @@ use Rattle.cg_agree_lemmas.specs.GreenMembers.{creates-same}
 use Rattle.cg_agree_lemmas.specs.GreensTold.{step-noted}
 use Rattle.cg_agree.proofs.JoinersMadeNone.{snapshot-none}
 use Rattle.cg_agree_lemmas.specs.MadeSplit.{rising-set-list}
-use Rattle.cg_agree_lemmas.specs.MadeAlone.{not-refused}
 use Rattle.cg_agree_lemmas.specs.UnorderedKept.{first-none}
 use Rattle.cg_agree_lemmas.specs.RestsBehind.{handed-ids, split-to}
 use Rattle.cg_agree_lemmas.specs.StepGreens.{step-follows, whitened-count}
 use Rattle.cg_agree_lemmas.specs.TurnWorlds.{life_at}
 use Rattle.cg_agree_lemmas.specs.WorldTurns.{IsBehind, hand-behind, from-same, handed-behind}
 use Rattle.cg_client.specs.Joined.{piece_count}
+use Rattle.cg_group.specs.RefusalLaws.{refuse_none}
 
 -- the greens of a replica, as it runs or as its disk has them; none of one that hasn't begun
 abbrev pub held_at : NodeState → Held
@@ -287,7 +287,7 @@ unbegun w p joiner pieces admitted =
     let first = first-none (takes_part w p) (never_named w joiner ∷ begun_already w joiner ∷ joiner_left w p joiner ∷ not_green w p joiner ∷ []) (ap is_none admitted) in
     let second = first-none (never_named w joiner) (begun_already w joiner ∷ joiner_left w p joiner ∷ not_green w p joiner ∷ []) first.1 in
     let third = first-none (begun_already w joiner) (joiner_left w p joiner ∷ not_green w p joiner ∷ []) second.1 in
-    not-refused (has_begun w joiner) _ third.0
+    refuse_none (has_begun w joiner) _ third.0
 
 module _ (c : Chronicle) (w : World) (stands : StandsBeside c w) where
   pub even-at : (p : ℕ) → NodeEven c.start p (node_of w p)

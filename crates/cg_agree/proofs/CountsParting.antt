@@ -41,10 +41,10 @@ use Rattle.cg_agree.proofs.InstalledParts.{waits-announced, oneself-before, inst
 use Rattle.cg_agree.proofs.ModeKept.{mode_data-kept}
 use Rattle.cg_agree_lemmas.specs.OneSteps.{leaves-step}
 use Rattle.cg_agree_lemmas.specs.PartingActs.{PartedBy, parting-by}
-use Rattle.cg_agree.proofs.PrimaryKept.{primary-data}
 use Rattle.cg_agree_lemmas.specs.RecordKept.{turn-is}
 use Rattle.cg_agree_lemmas.specs.SameAttempt.{same-installation}
 use Rattle.cg_agree_lemmas.specs.TurnValues.{even-mark_yellow}
+use Rattle.cg_agree.proofs.ModeStates.{from-primary}
 
 -- ---- a member of a primary component marks nothing green in its parting
 
@@ -122,7 +122,7 @@ module _ (c : Chronicle) (p : ℕ) (set : List ℕ) (own : ℕ) (places : List �
     by (inl quiet) =
         let primary : is_primary r.state ≡ true = sym quiet.primary ∙ primary-behind in
         let mode : IsModeData c p r = subst (λ (o : Option Replica). IfSome o (IsModeData c p)) up (i.replica.mode_data p) in
-        let in_it = primary-data c r.held (Regular conf) r.state primary (subst (λ (x : Phase). HasModeData c r.held x r.state) phase-before mode.data_of) in
+        let in_it = from-primary c r.held (Regular conf) r.state primary (subst (λ (x : Phase). HasModeData c r.held x r.state) phase-before mode.data_of) in
         let a = attempt_at c r.held.prim.index in
         let counted : IsCounted a r = subst (λ (o : Option Attempt). IfSome o (λ a. IsCounted a r)) (ap (λ x. attempt_of c (conf_at x)) phase-before ∙ in_it.opened) mode.counted in
         let state = regular-state c i p conf r up phase-before primary in

@@ -24,17 +24,13 @@ use Rattle.cg_agree.proofs.GreenLine.{HasGreenLine, primary-regular}
 use Rattle.cg_agree_lemmas.specs.HandSays.{find-holds}
 use Rattle.cg_agree.proofs.ModeKept.{mode_data-kept}
 use Rattle.cg_agree.proofs.NetFactsKept.{net-kept}
-use Rattle.cg_agree_lemmas.specs.OneSteps.{regular-is_up}
-use Rattle.cg_agree.proofs.PrimaryKept.{line-behind, primary-data}
+use Rattle.cg_agree.proofs.PrimaryKept.{line-behind}
 use Rattle.cg_agree_lemmas.specs.Reach.{acts-more}
 use Rattle.cg_agree_lemmas.specs.SmallTalk.{conf-there}
 use Rattle.cg_agree.proofs.TalkFactsKept.{mode_fits-kept}
-
-phase-is : (conf : ℕ) (x : Phase) → is_regular_at conf x ≡ true → x ≡ Regular conf
-phase-is conf (Regular k) e = ap Regular (eqb-true k conf e)
-phase-is conf (Transitional k set) e = absurd (let clash : false ≡ true = e in cc)
-phase-is conf Alone e = absurd (let clash : false ≡ true = e in cc)
-phase-is conf Down e = absurd (let clash : false ≡ true = e in cc)
+use Rattle.cg_agree.proofs.RegularEnds.{regular-phase_is}
+use Rattle.cg_agree.proofs.ModeStates.{from-primary}
+use Rattle.cg_agree_lemmas.specs.HandsKept.{regular-up}
 
 some-is : (x y : Attempt) → Some x ≡ Some y → x ≡ y
 some-is x y e = ap (λ o. option_map_or (λ z. z) o x) e
@@ -49,11 +45,11 @@ pub regular-counted : (c : Chronicle) (s : Small) → Invariant c → may_make c
 regular-counted c s i may conf p b found installed regular =
     let d = small_step c s in
     let net = net-kept c s i may in
-    let phase = phase-is conf (phase_of d.world.group p) regular in
+    let phase = regular-phase_is conf (phase_of d.world.group p) regular in
     let member = (subst (IsPhase d p (delivered_to d.world.group p)) phase (net.phase_sound.phase p)).0 in
     let number = (conf-there d.world.group conf p member).0 in
     let in_phase : is_regular d.world.group p ≡ true = ap (λ x. not (regular_in x == 0)) phase ∙ ap not (ne_eqb conf 0 (λ e. absurd (omega (arith, e, number)))) in
-    let one = there (replica_of d.world p) (net.phase_sound.up p ∙ regular-is_up d.world.group p in_phase) in
+    let one = there (replica_of d.world p) (net.phase_sound.up p ∙ regular-up d.world.group p in_phase) in
     let r = one.0 in
     let mode : IsModeData d p r = subst (λ (o : Option Replica). IfSome o (IsModeData d p)) one.1 (mode_data-kept c s i may p) in
     let counted : IsCounted b r = subst (λ (o : Option Attempt). IfSome o (λ a. IsCounted a r)) (ap (λ x. attempt_of d (conf_at x)) phase ∙ found) mode.counted in
@@ -61,7 +57,7 @@ regular-counted c s i may conf p b found installed regular =
     let state : r.state ≡ state_in (members_in d conf) conf (handed_talk d conf p) p =
     subst (λ (x : Phase). IsStateIn d p x r) phase (subst (λ (o : Option Replica). IfSome o (IsStateIn d p (phase_of d.world.group p))) one.1 (mode_fits-kept c s i may p)) in
     let is : r.state ≡ RegPrim = state ∙ primary-regular (members_in d conf) conf (handed_talk d conf p) p (ap is_primary (sym state) ∙ primary) in
-    let in_it : IsInPrimary d r.held conf = subst (λ (x : Phase). IsInPrimary d r.held (conf_at x)) phase (primary-data d r.held (phase_of d.world.group p) r.state primary mode.data_of) in
+    let in_it : IsInPrimary d r.held conf = subst (λ (x : Phase). IsInPrimary d r.held (conf_at x)) phase (from-primary d r.held (phase_of d.world.group p) r.state primary mode.data_of) in
     let same : attempt_at d r.held.prim.index ≡ b = some-is (attempt_at d r.held.prim.index) b (sym in_it.opened ∙ found) in
     let line : HasGreenLine d p b = subst (HasGreenLine d p) same (line-behind c s i may p r one.1 is) in
     let conf_is : b.conf ≡ conf = eqb-true b.conf conf (find-holds (λ (a : Attempt). a.conf == conf) d.attempts b found) in

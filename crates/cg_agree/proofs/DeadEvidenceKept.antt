@@ -34,11 +34,12 @@ use Rattle.cg_agree_lemmas.specs.ToldKept.{IsUntold, told-same, told_in-same}
 use Rattle.cg_agree.proofs.PastKept.{EntersNow, enters-now, enters-is, entry_turn, entry_told, told_in-enters, past_left-kept}
 use Rattle.cg_agree.proofs.CoresMove.{end-rises}
 use Rattle.cg_agree.proofs.ClearedDead.{regular-in}
-use Rattle.cg_agree.proofs.DeadNow.{when-from, never-entered, cut-short}
+use Rattle.cg_agree.proofs.DeadNow.{never-entered, cut-short}
 use Rattle.cg_agree.proofs.RecordsMove.{RecordMove, Still, Fresh, Comes, Through, records-move}
 use Rattle.cg_agree.proofs.EnteredBefore.{HowEntered, Before, Now, how-entered, entered_within-kept, entered-begun}
 use Rattle.cg_agree.proofs.EnteredDead.{old-dead, come-dead, through-dead}
 use Rattle.cg_agree.proofs.ModeKept.{mode_data-kept}
+use Rattle.cg_agree_lemmas.specs.ListStill.{when-from}
 
 -- the core of a replica that is up
 pub running-core : (c : Chronicle) (p : ℕ) (r : Replica) → replica_of c.world p ≡ Some r → core_of c p ≡ Some r.held

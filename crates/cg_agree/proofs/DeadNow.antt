@@ -31,6 +31,7 @@ use Rattle.cg_agree_lemmas.specs.ReachWorld.{when-is}
 use Rattle.cg_agree_lemmas.specs.HandSays.{find-holds}
 use Rattle.cg_agree.proofs.DeadKept.{any-of}
 use Rattle.cg_agree.proofs.OneAttemptKept.{announced-said}
+use Rattle.cg_agree_lemmas.specs.ListStill.{when-from}
 
 -- ---- choices
 
@@ -124,10 +125,6 @@ never-no set conf t me = one (is_full set t) (is_through t) (has (gone t.heard) 
   one true true false false u = refl
   one true true false true true = refl
   one true true false true false = refl
-
-pub when-from : (b : Bool) (A : Type 0) → (b ≡ true → A) → When b A
-when-from true A is = is refl
-when-from false A is = tt
 
 module _ (d : Chronicle) (entered : AnnouncedEntered d) (announced : InstalledAnnounced d) (sound : PhaseSound d) (modes : ModeFits d)
     (holds : (p : ℕ) → IfSome (replica_of d.world p) (IsModeData d p)) (within : EnteredWithin d) where

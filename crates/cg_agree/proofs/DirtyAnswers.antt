@@ -13,7 +13,8 @@ use Rattle.cg_action.specs.declared.entry.DbEntry.{DbEntry}
 use Rattle.cg_db.specs.Apply.{apply, fold_actions}
 use Rattle.cg_db.specs.Find.{answer}
 use Rattle.cg_queue.specs.Queue.{green_count, names_of}
-use Rattle.cg_group.specs.EachLaws.{Each, Each-filter, Each-append}
+use Rattle.cg_base.specs.Lists.{Each}
+use Rattle.cg_group.specs.EachLaws.{Each-filter, Each-append}
 use Rattle.cg_group.specs.State.{is_up}
 use Rattle.cg_client.specs.Install.{actions_named}
 use Rattle.cg_client.specs.Queries.{plain_reds, behind, dirty_answer, view_of}
@@ -43,15 +44,16 @@ use Rattle.cg_agree_lemmas.specs.HeldAll.{yellow-named}
 use Rattle.cg_agree.proofs.LinesShown.{up-shown}
 use Rattle.cg_agree_lemmas.specs.MadeAlone.{takes-part, is-running}
 use Rattle.cg_agree.proofs.MadeTold.{IsMadeTold, made-told}
-use Rattle.cg_agree.proofs.OrderReached.{in-order}
+use Rattle.cg_agree.proofs.OrderReached.{in-order, run-some}
 use Rattle.cg_agree_lemmas.specs.OrderTold.{order_told}
 use Rattle.cg_agree.proofs.OrderedActions.{IsShownAs, shown-as, each-shown_as, all-as, ordered-as}
 use Rattle.cg_agree.proofs.RedsShown.{each-front, reds-shown}
 use Rattle.cg_disk_records.specs.Holds.{run_on}
-use Rattle.cg_agree.proofs.RunPrefix.{world-last, comes}
+use Rattle.cg_agree.proofs.RunPrefix.{comes}
 use Rattle.cg_agree.proofs.TellsRun.{has-told}
 use Rattle.cg_agree_lemmas.specs.TurnRows.{each-named}
 use Rattle.cg_disk_records.specs.RunMarkLaws.{run-head, run-rest}
+use Rattle.cg_model.specs.RunLaws.{world-last}
 
 -- ---- lists
 
@@ -59,12 +61,6 @@ each-drop : {X : Type 0} (P : X → Type 0) (n : ℕ) (xs : List X) → Each P x
 each-drop P zero xs each = each
 each-drop P (suc n) [] each = tt
 each-drop P (suc n) (x ∷ xs) each = each-drop P n xs each.1
-
-numbered-each : (cut ids : List ActionId) → run_on cut ids ≡ true → Each (λ id. 1 ≤ id.index) ids
-numbered-each cut [] run = tt
-numbered-each cut (id ∷ ids) run =
-    let next : id.index ≡ suc (index_in cut id.creator) = run-head cut id ids run in
-    (omega arith, numbered-each (raise cut id) ids (run-rest cut id ids run))
 
 -- ---- the actions that a line names
 
@@ -93,7 +89,7 @@ module _ (steps : List Step) (c : Chronicle) (w : World) (stands : StandsBeside 
     reds-are =
         let booked = subst (λ (o : Option Replica). IfSome o (λ r. AreBooked c (r.held.queue.reds ++ r.held.own))) here (stands.facts.replica.made_once.in_memory p) in
         shown-each h.queue.reds (each-front (IsNamed c.book) h.queue.reds h.own (each-booked c (h.queue.reds ++ h.own) booked)) low
-        (numbered-each h.queue.green_cut (names_of h.queue.reds) (in-order c w stands p r runs).core.contiguous.reds)
+        (run-some h.queue.green_cut (names_of h.queue.reds) (in-order c w stands p r runs).core.contiguous.reds)
 
     greens-are : Each Is h.queue.greens
     greens-are =

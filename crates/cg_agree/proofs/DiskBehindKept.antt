@@ -25,10 +25,10 @@ use Rattle.cg_model.specs.Smalls.{may_make, is_set}
 use Rattle.cg_agree_lemmas.specs.ChronicleFacts.{node_of-set, greens_of-other, past-begun}
 use Rattle.cg_agree_lemmas.specs.FrontFacts.{Front-refl, Front-trans, Front-append}
 use Rattle.cg_agree_lemmas.specs.HeldCommit.{recovered-id}
-use Rattle.cg_agree_lemmas.specs.OneselfWorld.{HavePasts, Rehosted}
+use Rattle.cg_agree_lemmas.specs.OneselfWorld.{HavePasts, Rehosted, stood-same}
 use Rattle.cg_agree.proofs.BegunKept.{nothing-before}
-use Rattle.cg_agree_lemmas.specs.CoresKept.{node-of, greens-turn, stood-turn, past-here, past-there}
-use Rattle.cg_agree_lemmas.specs.CoresSmall.{nothing-green, nothing-stood}
+use Rattle.cg_agree_lemmas.specs.CoresKept.{node-of, greens-turn, past-here, past-there}
+use Rattle.cg_agree_lemmas.specs.CoresSmall.{nothing-green, nothing-stood, none-of}
 
 abbrev life_in : Option Node → Option Replica
 life_in o = option_and_then (λ s. running s.life) o
@@ -72,9 +72,9 @@ behind-turning c b p part pasts old = at (node_of b.world p) refl where
       (record {
         node = λ q. node_of-set b.world p (Up t.replica disk) q;
         greens = greens-turn b p r disk t pasts node;
-        disk = stood-turn b p r disk t p;
+        disk = stood-same b p r disk t p;
         other_greens = λ q apart. greens_of-other b p r disk t q (λ e. apart (sym e));
-        other_disks = λ q apart. stood-turn b p r disk t q;
+        other_disks = λ q apart. stood-same b p r disk t q;
       })
       (Front-trans (stood_of b p) (greens_of b p) (greens_of b p ++ newly_green r t.replica) (old.behind p) (Front-append (greens_of b p) (newly_green r t.replica)))
       (λ none. never-none t.replica none) old
@@ -145,10 +145,6 @@ behind-recover c p hosted s e (Down disk green) is old =
     }) (old.behind p) (λ none. never-none (recovered disk) none) old
 
 -- ---- joiners
-
-none-of : {X : Type 0} (o : Option X) → is_some o ≡ false → o ≡ None
-none-of None e = refl
-none-of (Some x) e = absurd (let clash : true ≡ false = e in cc)
 
 behind-join : (c : Chronicle) (joiner : ℕ) → past_of c joiner ≡ None → (content : Held) → DiskBehind c → DiskBehind (join_with c joiner content)
 behind-join c joiner absent content old =

@@ -1,11 +1,11 @@
 -- What each admitted event brings to each replica, and what it shows of it.
 use Rattle.std.proofs.Common.{◌≡◌, ℕ, zero, suc, ◌+◌, true, false, is_some, is_none, List, [], ◌∷◌, map, length, Option, Some, None, IfSome, refl, sym, ap, ◌∙◌, subst, option_map}
 use Rattle.std.specs.Option.{option_map_or}
-use Rattle.cg_base.specs.Lists.{above_up_to}
+use Rattle.cg_base.specs.Lists.{above_up_to, Each}
 use Rattle.cg_action.specs.declared.action.Kind.TheVariants.{Update, Join as JoinKind, Leave as LeaveKind}
 use Rattle.cg_wire.specs.declared.message.Msg.{Msg}
 use Rattle.cg_group.specs.declared.delivery.Handed.{Handed}
-use Rattle.cg_group.specs.EachLaws.{Each, Each-has}
+use Rattle.cg_group.specs.EachLaws.{Each-has}
 use Rattle.cg_base.specs.Sets.{has}
 use Rattle.cg_group.specs.declared.delivery.Delivery.TheVariants.{Regular as RegularIn}
 use Rattle.cg_group.specs.State.{delivered_to, home}
@@ -25,13 +25,13 @@ use Rattle.cg_model.specs.Looks.{on_disk, disk_held}
 use Rattle.cg_model.specs.Step.{quietly, name_also, snapshot_for, take_pieces, transfer, happens}
 use Rattle.cg_model.specs.Played.{StandsBeside}
 use Rattle.cg_agree_lemmas.specs.UnorderedKept.{first-none}
-use Rattle.cg_agree_lemmas.specs.MadeAlone.{not-refused}
 use Rattle.cg_agree_lemmas.specs.MadeSplit.{rising-set-list}
 use Rattle.cg_agree_lemmas.specs.RestsBehind.{handed-ids, split-to}
 use Rattle.cg_agree.proofs.JoinersMadeNone.{snapshot-none}
 use Rattle.cg_agree_lemmas.specs.EventInputs.{IsHanded}
 use Rattle.cg_agree_lemmas.specs.EventSays.{NodeOwes}
 use Rattle.cg_agree.proofs.EventMeets.{Meets, same-stays, asked, handed-one, handed-out, start-meets, stop-meets, arm-meets, recover-meets, pieces-meet}
+use Rattle.cg_group.specs.RefusalLaws.{refuse_none}
 
 module _ (c : Chronicle) (w : World) (stands : StandsBeside c w) where
   -- the disk of a replica that is down is its own
@@ -50,7 +50,7 @@ module _ (c : Chronicle) (w : World) (stands : StandsBeside c w) where
       let first = first-none (takes_part w p) (never_named w joiner ∷ begun_already w joiner ∷ joiner_left w p joiner ∷ not_green w p joiner ∷ []) (ap is_none admitted) in
       let second = first-none (never_named w joiner) (begun_already w joiner ∷ joiner_left w p joiner ∷ not_green w p joiner ∷ []) first.1 in
       let third = first-none (begun_already w joiner) (joiner_left w p joiner ∷ not_green w p joiner ∷ []) second.1 in
-      not-refused (has_begun w joiner) _ third.0
+      refuse_none (has_begun w joiner) _ third.0
 
   transfer-meets : (q joiner pieces p : ℕ) → has_begun w joiner ≡ false → Meets w (Transfer q joiner pieces) (transfer w q joiner pieces) p
   transfer-meets q joiner pieces p none = at (replica_of w q) refl where

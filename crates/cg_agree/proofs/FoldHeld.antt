@@ -15,6 +15,7 @@ use Rattle.cg_model.specs.Shown.{order_of, ordered_actions}
 use Rattle.cg_model.specs.Agreement.{ComesAfter, through}
 use Rattle.cg_agree.proofs.RunSteps.{world_of, chronicle_of, step-of, StandsFor, stands-for}
 use Rattle.cg_agree.proofs.ShownActions.{ordered-shown}
+use Rattle.cg_disk_records.specs.HoldsValueLaws.{dropped}
 
 -- the greens of a replica that is up are a front of the order, and what they make is what it holds
 pub record IsInOrder (steps : List Step) (p : ℕ) (r : Replica) : Type 0 where
@@ -22,11 +23,6 @@ pub record IsInOrder (steps : List Step) (p : ℕ) (r : Replica) : Type 0 where
   pub front : Front (names_of (greens_of (chronicle_of steps) p)) (order_of steps)
   pub booked : AreBooked (chronicle_of steps) (greens_of (chronicle_of steps) p)
   pub count : green_count r.held.queue ≡ length (greens_of (chronicle_of steps) p)
-
-dropped : (n : ℕ) (xs : List Action) → n ≤ length xs → n + length (drop n xs) ≡ length xs
-dropped zero xs le = omega arith
-dropped (suc n) [] le = absurd (omega arith)
-dropped (suc n) (x ∷ xs) le = let rest = dropped n xs (omega arith) in omega arith
 
 module _ (steps : List Step) (f : StandsFor steps) (p : ℕ) (r : Replica) (runs : replica_of (world_of steps) p ≡ Some r) where
   abbrev c : Chronicle

@@ -4,7 +4,7 @@ use Rattle.std.proofs.Common.{◌⊎◌, ◌↔◌, ◌≡◌, ℕ, suc, ◌+◌
 use Rattle.std.specs.Prelude.{◌==◌}
 use Rattle.std.proofs.lemmas.Bool.{cases_Bool, cases_lt, and_parts, cond-true, ltb-true, leb-true, lt-ltb, le-leb, false_from_ne_true}
 use Rattle.std.proofs.lemmas.List.{map-append}
-use Rattle.cg_group.specs.EachLaws.{Each}
+use Rattle.cg_base.specs.Lists.{Each}
 use Rattle.cg_base.specs.declared.action_id.ActionId.{ActionId}
 use Rattle.cg_base.specs.Cuts.{index_in}
 use Rattle.cg_base.specs.Ids.{same_id, names}
@@ -47,8 +47,8 @@ use Rattle.cg_agree_lemmas.specs.OwedNames.{own_name, is_behind}
 use Rattle.cg_agree_lemmas.specs.StepSays.{SaysSo}
 use Rattle.cg_agree_lemmas.specs.EventSays.{made_by, replies_by}
 use Rattle.cg_agree.proofs.EventMeets.{SaidOnly, KeptIn, TurnsIn, Meets, Stays, Turns, Falls, Wakes, Begins}
-use Rattle.cg_agree.proofs.EventRuns.{event-runs}
-use Rattle.cg_agree.proofs.GreensBehind.{greens-through}
+use Rattle.cg_agree_lemmas.specs.EventRuns.{event-runs}
+use Rattle.cg_agree_lemmas.specs.GreensBehind.{greens-through}
 use Rattle.cg_agree_lemmas.specs.LivesSince.{lives-next}
 use Rattle.cg_agree.proofs.OwedRun.{LivesAt, OwedAt, step-shows}
 use Rattle.cg_agree_lemmas.specs.NamesTimes.{named-times, times-named, times-passing, times-failing, times-once, in-times, times-contains, contains-in, placed-within, within-placed}

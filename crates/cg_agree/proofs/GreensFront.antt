@@ -23,6 +23,7 @@ use Rattle.cg_agree_lemmas.specs.ChronicleFacts.{greens_of-other, past-begun}
 use Rattle.cg_agree_lemmas.specs.CoresKept.{node-of, greens-turn, past-here, past-there}
 use Rattle.cg_agree.proofs.BegunKept.{nothing-before}
 use Rattle.cg_agree_lemmas.specs.OneSteps.{may-join}
+use Rattle.cg_agree_lemmas.specs.TurnAlong.{commit-same}
 
 abbrev pub GreensGoOn : Chronicle → Chronicle → Type 0
 GreensGoOn c d = (p : ℕ) → Front (greens_of c p) (greens_of d p)
@@ -73,13 +74,6 @@ past-same c d change p keeps pasts same q = ap (λ xs. greens-in (find (λ (x : 
   | inl here ↦ subst (λ n. greens-in (find (λ (x : Past). x.id == n) (changed_past change p c.pasts)) ≡ greens_of c n) here (ap greens-in (past-here change keeps c p) ∙ same)
   | inr apart ↦ ap greens-in (past-there change keeps c p q apart)
 ]
-
-pub commit-same : (c : Chronicle) (p : ℕ) (l : NodeState) (q : ℕ) → greens_of (commit_as c p l) q ≡ greens_of c q
-commit-same c p (Down disk green) q = refl
-commit-same c p (Up r disk) q = past-same c (commit_as c p (Up r disk)) written p (λ x. refl) refl (same (past_of c p)) q where
-  same : (o : Option Past) → greens-in (option_map written o) ≡ greens-in o
-  same None = refl
-  same (Some x) = refl
 
 pub crash-same : (c : Chronicle) (p : ℕ) → greens_of c p ≡ stood_of c p → (l : NodeState) (q : ℕ) → greens_of (crash_as c p l) q ≡ greens_of c q
 crash-same c p agree (Down disk green) q = refl

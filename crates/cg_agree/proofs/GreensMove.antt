@@ -28,8 +28,8 @@ use Rattle.cg_agree_lemmas.specs.ChronicleFacts.{greens_of-other, past-begun}
 use Rattle.cg_agree_lemmas.specs.CoresKept.{greens-turn}
 use Rattle.cg_agree_lemmas.specs.EntryGreens.{entry-greens, nothing-new}
 use Rattle.cg_agree.proofs.ExchangeSmalls.{replica-behind}
-use Rattle.cg_agree_lemmas.specs.GreenMembers.{creates-same}
-use Rattle.cg_agree.proofs.GreensFront.{commit-same, crash-same}
+use Rattle.cg_agree_lemmas.specs.GreenMembers.{creates-same, drop-front}
+use Rattle.cg_agree.proofs.GreensFront.{crash-same}
 use Rattle.cg_agree_lemmas.specs.GroupKept.{leaving-regular}
 use Rattle.cg_agree_lemmas.specs.HandsKept.{regular-up, Sits, hosted}
 use Rattle.cg_agree_lemmas.specs.HeldAll.{installed_by}
@@ -40,6 +40,7 @@ use Rattle.cg_agree_lemmas.specs.PartingActs.{IsActAt, PartedBy, parting-by}
 use Rattle.cg_agree_lemmas.specs.RecordKept.{enters-between, turn-is}
 use Rattle.cg_agree.proofs.TellersStill.{turn-same}
 use Rattle.cg_agree_lemmas.specs.TurnKinds.{HasInstalled}
+use Rattle.cg_agree_lemmas.specs.TurnAlong.{commit-same}
 
 -- a replica has installed its attempt as it parted
 pub record InstalledLate (c d : Chronicle) (q : ℕ) : Type 0 where
@@ -98,10 +99,6 @@ other-turn c b p part q pasts apart = at (node_of b.world p) where
   at (Some s) = life s.life
 
 -- ---- a parting
-
-drop-front : (xs ys : List Action) → drop (length xs) (xs ++ ys) ≡ ys
-drop-front [] ys = refl
-drop-front (x ∷ xs) ys = drop-front xs ys
 
 module _ (c : Chronicle) (i : Invariant c) (p : ℕ) (set : List ℕ) (own : ℕ) (places : List ℕ) (may : may_make c (Leaves p set own places) ≡ true) where
   sits : Sits c.world p

@@ -3,7 +3,7 @@ use Rattle.std.proofs.Common.{◌⊎◌, ◌≡◌, ℕ, suc, ◌+◌, ◌≤◌
 use Rattle.std.specs.Prelude.{◌==◌}
 use Rattle.std.proofs.lemmas.Bool.{cond_both}
 use Rattle.std.proofs.lemmas.List.{length-append}
-use Rattle.cg_group.specs.EachLaws.{Each}
+use Rattle.cg_base.specs.Lists.{Each}
 use Rattle.cg_base.specs.Sets.{has, is_within, with_member}
 use Rattle.cg_action.specs.declared.action.Action.{Action}
 use Rattle.cg_action.specs.declared.action.Kind.{Kind}
@@ -35,6 +35,7 @@ use Rattle.cg_model.specs.ReplicaStep.{Deliveries, replica_step, on_message, on_
 use Rattle.cg_model.specs.FactsReplica.{is_primary}
 use Rattle.cg_agree_lemmas.specs.GreenMembers.{SameMembers, redden-same, own-same, creates-same}
 use Rattle.cg_agree.proofs.ItemsReached.{IsItemWithin}
+use Rattle.cg_agree_lemmas.specs.PartingNo.{state-marked}
 
 abbrev pub count : Turn → ℕ
 count t = green_count t.replica.held.queue
@@ -48,14 +49,9 @@ same-count old new same = ap₂ (λ n list. n + length list) same.white same.gre
 
 -- ---- marks
 
-marked-state : (t : Turn) (a : Action) (m : Marking) → (marked t a m).replica.state ≡ t.replica.state
-marked-state t a (Marks Placed q) = refl
-marked-state t a (Marks Known q) = refl
-marked-state t a (Gaps cut) = refl
-
 yellow-state : (t : Turn) (a : Action) → (mark_yellow t a).replica.state ≡ t.replica.state
 unfolding mark_yellow
-yellow-state t a = cond_both (is_unmade t.replica.held a) t (marked t a (marked_yellow t.replica.held.queue a)) (λ u. u.replica.state ≡ t.replica.state) (λ y. refl) (λ n. marked-state t a (marked_yellow t.replica.held.queue a))
+yellow-state t a = cond_both (is_unmade t.replica.held a) t (marked t a (marked_yellow t.replica.held.queue a)) (λ u. u.replica.state ≡ t.replica.state) (λ y. refl) (λ n. state-marked t a (marked_yellow t.replica.held.queue a))
 
 green-state : (t : Turn) (a : Action) → (mark_green t a).replica.state ≡ t.replica.state
 unfolding mark_green place_green

@@ -34,6 +34,7 @@ use Rattle.cg_agree_lemmas.specs.GroupTurn.{Moved, moved-handed, moved-sent, reg
 use Rattle.cg_agree_lemmas.specs.HandNext.{take-next}
 use Rattle.cg_agree_lemmas.specs.Reach.{greatest-bounds, greatest-grows}
 use Rattle.cg_agree.proofs.OneLine.{IsOnTop, level-on_top, handed-front}
+use Rattle.cg_agree_lemmas.specs.ActsWay.{drop-behind}
 
 -- ---- the turn
 
@@ -58,10 +59,6 @@ prim-turn from (StateMsg s) t can = same-turn t
 prim-turn from (GreenItem at a) t can = same-turn t
 prim-turn from (RedItem a) t can = same-turn t
 prim-turn from (Cpc id conf) t can = same-turn t
-
-drop-front : {X : Type 0} (xs ys : List X) → drop (length xs) (xs ++ ys) ≡ ys
-drop-front [] ys = refl
-drop-front (x ∷ xs) ys = drop-front xs ys
 
 attempts-same : (attempts : List Attempt) (p : ℕ) (greens : List Action) (old new : Replica) → old.state ≡ RegPrim → new.state ≡ RegPrim → attempts_behind attempts p greens old new ≡ attempts
 attempts-same attempts p greens old new e f =
@@ -121,7 +118,7 @@ module _ (c : Chronicle) (p conf : ℕ) (r : Replica) (disk : Disk) (s : Sent Ms
   still = turned.state ∙ h.state
 
   newly : newly_green r green_turn.replica ≡ acts_in (s ∷ [])
-  newly = ap (drop (length r.held.queue.greens)) turned.greens ∙ drop-front r.held.queue.greens (acts_in (s ∷ []))
+  newly = ap (drop (length r.held.queue.greens)) turned.greens ∙ drop-behind r.held.queue.greens (acts_in (s ∷ []))
 
   -- the member's greens grow by the action that it is handed, and those of others are as before
   pub greens-own : greens_of green_behind p ≡ greens_of c p ++ acts_in (s ∷ [])

@@ -34,8 +34,9 @@ use Rattle.cg_agree_lemmas.specs.GroupKept.{leaving-regular}
 use Rattle.cg_agree_lemmas.specs.HeldCommit.{recovered-id}
 use Rattle.cg_agree_lemmas.specs.Keyed.{found-changed}
 use Rattle.cg_agree.proofs.MoreThere.{NoneBegins, begun-same, begun-kept}
-use Rattle.cg_agree_lemmas.specs.OneSteps.{MayJoin, may-join, may-enter, begun-set, running-begun, regular-is_up}
+use Rattle.cg_agree_lemmas.specs.OneSteps.{MayJoin, may-join, may-enter, begun-set, running-begun}
 use Rattle.cg_agree_lemmas.specs.UnorderedKept.{regular-where_ordered, first-none, refused-not}
+use Rattle.cg_agree_lemmas.specs.HandsKept.{regular-up}
 
 -- ---- pasts
 
@@ -219,10 +220,10 @@ someone c (Makes set) none sound m = first set (and_parts (not (is_nil set) && i
 someone c (Enters p) none sound m =
     let comes = (may-enter c p m).comes in
     (p, coming-begun c (p ∷ []) p (and_from (may_come c p) true comes refl) (or_left (p == p) false (eq-eqb p p refl)))
-someone c (Orders p) none sound m = (p, running-begun c p (sound.up p ∙ regular-is_up c.world.group p (regular-where_ordered c.world.group p m)))
-someone c (Receives p place) none sound m = (p, running-begun c p (sound.up p ∙ regular-is_up c.world.group p (received-regular c p place m)))
-someone c (Hands p) none sound m = (p, running-begun c p (sound.up p ∙ regular-is_up c.world.group p (and_parts (is_regular c.world.group p) (nat_lt 0 (ready c.world.group p)) m).0))
-someone c (Leaves p set own places) none sound m = (p, running-begun c p (sound.up p ∙ regular-is_up c.world.group p (leaving-regular c p set own places m)))
+someone c (Orders p) none sound m = (p, running-begun c p (sound.up p ∙ regular-up c.world.group p (regular-where_ordered c.world.group p m)))
+someone c (Receives p place) none sound m = (p, running-begun c p (sound.up p ∙ regular-up c.world.group p (received-regular c p place m)))
+someone c (Hands p) none sound m = (p, running-begun c p (sound.up p ∙ regular-up c.world.group p (and_parts (is_regular c.world.group p) (nat_lt 0 (ready c.world.group p)) m).0))
+someone c (Leaves p set own places) none sound m = (p, running-begun c p (sound.up p ∙ regular-up c.world.group p (leaving-regular c p set own places m)))
 someone c (Asks p kind) none sound m = (p, running-begun c p (and_parts (is_running c p) (not (is_left c.world p)) m).0)
 someone c (Settles p) none sound m = (p, running-begun c p m)
 someone c (Commits p) none sound m = (p, running-begun c p m)

@@ -34,10 +34,7 @@ use Rattle.cg_agree_lemmas.specs.OneSteps.{crashes-step}
 use Rattle.cg_agree.proofs.OutStays.{said-number}
 use Rattle.cg_agree_lemmas.specs.ReachFacts.{all-at}
 use Rattle.cg_agree.proofs.RegularEnds.{RegularEnds, Still, Parting, Crashing, regular-ends, regular-inside}
-
-when-so : (b : Bool) (A : Type 0) → (b ≡ true → A) → When b A
-when-so true A made = made refl
-when-so false A made = tt
+use Rattle.cg_agree_lemmas.specs.ListStill.{when-from}
 
 -- a crash loses no green of who has written all
 crash-greens : (c : Chronicle) (p : ℕ) → greens_of c p ≡ stood_of c p → greens_of (small_step c (Crashes p)) p ≡ greens_of c p
@@ -158,4 +155,4 @@ pub installed_count-kept : (c : Chronicle) (s : Small) → Invariant c → may_m
 installed_count-kept c s i may rest out conf p = at (attempt_of (small_step c s) conf) refl where
   at : (o : Option Attempt) → attempt_of (small_step c s) conf ≡ o → IfSome o (λ b. When (has_installed b p) (IsCountedIn (small_step c s) conf b p))
   at None e = tt
-  at (Some b) now = when-so (has_installed b p) (IsCountedIn (small_step c s) conf b p) (λ installed. there-before c s i may rest out conf p b now installed (attempt_of c conf) refl)
+  at (Some b) now = when-from (has_installed b p) (IsCountedIn (small_step c s) conf b p) (λ installed. there-before c s i may rest out conf p b now installed (attempt_of c conf) refl)

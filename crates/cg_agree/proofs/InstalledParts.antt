@@ -45,6 +45,7 @@ use Rattle.cg_agree_lemmas.specs.ReachWorld.{when-is}
 use Rattle.cg_agree_lemmas.specs.StatesSaid.{announcing}
 use Rattle.cg_agree.proofs.ToldBeside.{told-fits}
 use Rattle.cg_disk_records.specs.Holds.{cut_behind}
+use Rattle.cg_agree_lemmas.specs.TurnGreens.{names-count}
 
 -- ---- lists
 
@@ -70,10 +71,6 @@ all-names (id ∷ ids) = ap (λ xs. id ∷ xs) (all-names ids)
 all-reds : (reds : List Action) → reds_but [] reds ≡ reds
 all-reds [] = refl
 all-reds (a ∷ reds) = ap (λ xs. a ∷ xs) (all-reds reds)
-
-names-long : (xs : List Action) → length (names_of xs) ≡ length xs
-names-long [] = refl
-names-long (x ∷ xs) = ap suc (names-long xs)
 
 none-named : (xs : List Action) → xs ≡ [] → names_of xs ≡ []
 none-named xs e = ap names_of e
@@ -170,7 +167,7 @@ module _ (c : Chronicle) (i : Invariant c) (p : ℕ) (r : Replica) (ins : Instal
       let yellow : ins.a.yellow ≡ [] = sym held-parts.yellow ∙ none-valid r.held invalid in
       let named = reds-named (sym shape.parts.yellow ∙ none-named ins.a.yellow yellow) in
       filter-whole (λ a. not (names r.held.queue.yellow a.id)) r.held.queue.reds
-      (sym (names-long (plain_reds r.held.queue)) ∙ ap length (ap names_of held-parts.reds ∙ shape.parts.reds ∙ named) ∙ names-long r.held.queue.reds) where
+      (sym (names-count (plain_reds r.held.queue)) ∙ ap length (ap names_of held-parts.reds ∙ shape.parts.reds ∙ named) ∙ names-count r.held.queue.reds) where
         none-valid : (h : Held) → h.yellow_valid ≡ false → valid_yellow h ≡ []
         none-valid h invalid = rw invalid refl
 

@@ -34,14 +34,14 @@ use Rattle.cg_model.specs.Smalls.{may_make, implies, ascend_within, hold_receive
 use Rattle.cg_agree_lemmas.specs.CreatesTalk.{grows-all}
 use Rattle.cg_agree_lemmas.specs.GroupKept.{leaving-regular}
 use Rattle.cg_agree_lemmas.specs.HandNext.{legal-at}
-use Rattle.cg_agree_lemmas.specs.HandsKept.{regular-phase, hosted, attempt-named}
-use Rattle.cg_agree_lemmas.specs.OneSteps.{regular-is_up}
+use Rattle.cg_agree_lemmas.specs.HandsKept.{regular-phase, hosted, attempt-named, regular-up}
 use Rattle.cg_agree_lemmas.specs.PartingNo.{is_past, Waits, IsAnnouncement, alone-places, left-places, past-places, places-wait, places-heard}
 use Rattle.cg_agree.proofs.TalkAlone.{replica-set}
 use Rattle.cg_agree_lemmas.specs.TalkApart.{transitional-now}
 use Rattle.cg_agree_lemmas.specs.TalkEarly.{all-member}
 use Rattle.cg_agree.proofs.TalkQuiet.{parted, leaves-apart, talk-leaves}
 use Rattle.cg_agree_lemmas.specs.TalkSame.{said-of}
+use Rattle.cg_agree_lemmas.specs.PlacesBegin.{implied}
 
 -- ---- where an announcement stands
 
@@ -117,10 +117,6 @@ counted-up from zero x a b = absurd (omega arith)
 counted-up from (suc n) x a b = ⊎_elim
     (λ e. or_left (from == x) (has (count_up (suc from) n) x) (eq-eqb from x e))
     (λ ne. or_right (from == x) (has (count_up (suc from) n) x) (counted-up (suc from) n x (omega arith) (omega arith))) (cases_eq from x)
-
-implied : (a b : Bool) → implies a b ≡ true → a ≡ true → b ≡ true
-implied true b e is = e
-implied false b e is = absurd (let clash : false ≡ true = is in cc)
 
 slice-short : {X : Type 0} (xs : List X) (k : ℕ) (x : X) → slice_get xs k ≡ Some x → k < length xs
 slice-short [] k x e = absurd (let clash : None ≡ Some x = e in cc)
@@ -312,7 +308,7 @@ talk-parts c p set own places sound mode shape may old =
     let regular = leaving-regular c p set own places may in
     let phase = regular-phase (phase_of g p) regular in
     let conf = phase.at in
-    let sits = hosted c.world p (sound.up p ∙ regular-is_up g p regular) in
+    let sits = hosted c.world p (sound.up p ∙ regular-up g p regular) in
     let r = sits.replica in
     let runs : replica_of c.world p ≡ Some r = ap (option_and_then (λ (x : Node). running x.life)) sits.node in
     let all = subst (λ (o : Option Replica). IfSome o (IsModeData c p)) runs (mode p) in

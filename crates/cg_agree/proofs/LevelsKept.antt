@@ -202,7 +202,7 @@ module _ (c : Chronicle) (s : Small) (i : Invariant c) (may : may_make c s ≡ t
 
 -- ---- each small step
 
-nothing-known : (Q : Held → List Action → Type 0) → OfCores no_chronicle Q
+pub nothing-known : (Q : Held → List Action → Type 0) → OfCores no_chronicle Q
 nothing-known Q = record { memory = λ p. tt; disk = λ p. tt; snapshot = λ joiner. tt }
 
 started : (c : Chronicle) (i : Invariant c) (set : List Weighted) → may_make c (Starts set) ≡ true → OfCores (small_step c (Starts set)) (Knows (small_step c (Starts set)))

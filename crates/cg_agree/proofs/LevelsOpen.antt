@@ -24,6 +24,7 @@ use Rattle.cg_agree_lemmas.specs.AttemptsTurn.{at_conf, installer-has, installin
 use Rattle.cg_agree.proofs.AttemptSteps.{group-of, WhyInstalled, AllAnnounced, Before, Installing, AttemptStep, Same, Goes, Begun, Installed, attempt-step}
 use Rattle.cg_agree.proofs.DeadKept.{said-attempt, installing-alive}
 use Rattle.cg_agree.proofs.AttemptsCame.{Came, Stayed, WasLeft, WasEntered, WasInstalled, WasMade, came, ins-conf, dead-none, same-left}
+use Rattle.cg_agree_lemmas.specs.ListStill.{when-from}
 
 -- ---- who has installed
 
@@ -125,10 +126,6 @@ level-step c d (Installed p r new ins done attempts levels core moved) =
           ∙ cond-true (ins.conf == ins.a.conf) (option_map (with_installer p) (at_conf c.attempts ins.conf)) (at_conf c.attempts ins.conf) (eq-eqb ins.conf ins.a.conf (sym (ins-conf c p r ins)))
           ∙ ap (option_map (with_installer p)) ins.found)
     ]
-
-pub when-from : (b : Bool) (A : Type 0) → (b ≡ true → A) → When b A
-when-from true A f = f refl
-when-from false A f = tt
 
 -- ---- levels stand
 

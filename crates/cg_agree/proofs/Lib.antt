@@ -137,9 +137,6 @@ pub mod EventMeets
 pub mod EventsMeet
 pub mod OwedRun
 pub mod OwedKept
-pub mod TurnAlong
-pub mod EventRuns
-pub mod GreensBehind
 pub mod FoldReplies
 pub mod FoldAnswersRun
 pub mod RunForward

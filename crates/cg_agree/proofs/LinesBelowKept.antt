@@ -4,7 +4,8 @@ use Rattle.std.specs.Prelude.{◌==◌}
 use Rattle.std.specs.Option.{option_map_or}
 use Rattle.std.proofs.lemmas.Bool.{cond-true, and_parts, or_cases, or_right}
 use Rattle.std.proofs.lemmas.List.{length-drop}
-use Rattle.cg_group.specs.EachLaws.{Each, Each-append, Each-weaker}
+use Rattle.cg_base.specs.Lists.{Each}
+use Rattle.cg_group.specs.EachLaws.{Each-append, Each-weaker}
 use Rattle.cg_base.specs.declared.weighted.Weighted.{Weighted}
 use Rattle.cg_base.specs.Sets.{has}
 use Rattle.cg_base.specs.Text.{is_nil}
@@ -55,6 +56,7 @@ use Rattle.cg_agree_lemmas.specs.BookedCores.{each-booked, front-each}
 use Rattle.cg_agree.proofs.CopiesBooked.{UnbegunMadeNone, greens-on_line, joiners-booked}
 use Rattle.cg_agree.proofs.MadeOnceKept.{made_once-kept}
 use Rattle.cg_disk_records.specs.Holds.{run_on}
+use Rattle.cg_disk_records.specs.HoldsValueLaws.{dropped}
 
 -- ---- the actions that a turn makes
 
@@ -111,9 +113,6 @@ ask-mine r kind = at r.state where
 
 -- ---- the lines of all actions
 
-counts : (n : ℕ) (xs : List Action) → n ≤ length xs → n + length (drop n xs) ≡ length xs
-counts n xs le = let short = length-drop n xs in omega arith
-
 module _ (c : Chronicle) (i : Invariant c) (line : ℕ → ℕ) (high : (q : ℕ) → length (greens_of c q) ≤ line q) where
   abbrev IsLow : Action → Type 0
   IsLow a = a.green_line ≤ line a.id.creator
@@ -135,7 +134,7 @@ module _ (c : Chronicle) (i : Invariant c) (line : ℕ → ℕ) (high : (q : ℕ
     mine-low t is = Each-weaker (IsMine r.held) IsLow each t.made is.made where
       each : (a : Action) → IsMine r.held a → a.green_line ≤ line a.id.creator
       each a of =
-          let count : green_count r.held.queue ≡ length (greens_of c p) = ap (λ xs. r.held.queue.white + length xs) core.made_of.kept ∙ counts r.held.queue.white (greens_of c p) core.made_of.white in
+          let count : green_count r.held.queue ≡ length (greens_of c p) = ap (λ xs. r.held.queue.white + length xs) core.made_of.kept ∙ dropped r.held.queue.white (greens_of c p) core.made_of.white in
           let up = high p in
           let green = of.1 in
           subst (λ n. a.green_line ≤ line n) (sym (of.0 ∙ named)) (omega arith)

@@ -25,6 +25,7 @@ use Rattle.cg_agree_lemmas.specs.LinesMade.{below-each, named-fine, reached, joi
 use Rattle.cg_agree.proofs.LinesBelowKept.{Beginnings}
 use Rattle.cg_agree.proofs.LevelsKept.{start-kept}
 use Rattle.cg_agree.proofs.SummariesKept.{start-told, fits-kept}
+use Rattle.cg_agree_lemmas.specs.CoresSmall.{nil-is}
 
 -- as SummaryLines has it, with the join as it is used
 pub record ReachedBy (start : List Weighted) (by of : Told) : Type 0 where
@@ -69,10 +70,6 @@ both-now c i first p q by of one other = record {
   counted = other.count ∙ ap length other.greens
 
 -- ---- behind an entry
-
-nil-is : {X : Type 0} (xs : List X) → is_nil xs ≡ true → xs ≡ []
-nil-is [] e = refl
-nil-is (x ∷ xs) e = absurd (let clash : false ≡ true = e in cc)
 
 module _ (c : Chronicle) (i : Invariant c) (tellers : TellersStill c) (p : ℕ) (may : may_make c (Enters p) ≡ true) (now : EntersNow c p) where
   abbrev d : Chronicle

@@ -19,7 +19,7 @@ use Rattle.cg_model.specs.Facts.{Invariant}
 use Rattle.cg_model.specs.Small.{Hands, with_entrant, with_installer, with_leaver, take_next, handed_next, small_step}
 use Rattle.cg_model.specs.Smalls.{may_make}
 use Rattle.cg_agree.proofs.AttemptSteps.{IsHanded, attempt-step}
-use Rattle.cg_agree.proofs.AttemptsCame.{Begins, Came, Stayed, WasLeft, WasEntered, WasInstalled, WasMade, came}
+use Rattle.cg_agree.proofs.AttemptsCame.{Begins, Came, Stayed, WasLeft, WasEntered, WasInstalled, WasMade, came, some-is}
 use Rattle.cg_agree.proofs.BookedParts.{same-booked, booked-left, booked-right}
 use Rattle.cg_agree_lemmas.specs.AttemptsGrow.{grown-leaver}
 use Rattle.cg_agree.proofs.ExchangeBehind.{told-now}
@@ -33,9 +33,6 @@ use Rattle.cg_agree.proofs.TalkQuiet.{replica-turning}
 -- the actions of each attempt's parts are those of their names
 abbrev pub PartsBooked : Chronicle → Type 0
 PartsBooked c = (conf : ℕ) → IfSome (attempt_of c conf) (λ a. AreBooked c (a.yellow ++ a.reds))
-
-some-is : {X : Type 0} (x y : X) → Some x ≡ Some y → x ≡ y
-some-is x y e = ap (λ o. option_map_or (λ z. z) o x) e
 
 -- ---- a member that enters
 

@@ -32,13 +32,13 @@ use Rattle.cg_model.specs.FactsBooks.{LifeMade, MadeBook, MadeFits, NodeMade}
 use Rattle.cg_model.specs.FactsReplica.{IsCore, IsModeData}
 use Rattle.cg_model.specs.Played.{StandsBeside, with_world}
 use Rattle.cg_agree_lemmas.specs.UnorderedKept.{first-none}
-use Rattle.cg_agree_lemmas.specs.MadeAlone.{not-refused}
 use Rattle.cg_agree_lemmas.specs.MadeSplit.{rising-set-list}
 use Rattle.cg_agree_lemmas.specs.LivesRest.{LifeRests, NodeRests, node-in}
 use Rattle.cg_agree_lemmas.specs.RestsBehind.{handed-ids, split-to}
 use Rattle.cg_agree_lemmas.specs.MadeWorlds.{IsCoreAt, LifeSound, NodeSound, fits-same, hand-fits, handed-fits, begun-fits, stopped-fits, armed-fits, came-up, joined-fits}
 use Rattle.cg_agree.proofs.JoinersMadeNone.{snapshot-none}
 use Rattle.cg_client.specs.Joined.{piece_count}
+use Rattle.cg_group.specs.RefusalLaws.{refuse_none}
 
 -- ---- the book
 
@@ -69,7 +69,7 @@ transfer-unbegun w p joiner pieces admitted =
     let first = first-none (takes_part w p) (never_named w joiner ∷ begun_already w joiner ∷ joiner_left w p joiner ∷ not_green w p joiner ∷ []) (ap is_none admitted) in
     let second = first-none (never_named w joiner) (begun_already w joiner ∷ joiner_left w p joiner ∷ not_green w p joiner ∷ []) first.1 in
     let third = first-none (begun_already w joiner) (joiner_left w p joiner ∷ not_green w p joiner ∷ []) second.1 in
-    not-refused (has_begun w joiner) _ third.0
+    refuse_none (has_begun w joiner) _ third.0
 
 -- ---- events
 

@@ -3,14 +3,14 @@ use Rattle.std.proofs.Common.{◌≡◌, true, option_and_then, ℕ, zero, suc, 
 use Rattle.std.specs.Prelude.{◌==◌, nat_le}
 use Rattle.std.specs.Option.{option_map_or}
 use Rattle.std.proofs.lemmas.Bool.{cond_both, ne_eqb}
-use Rattle.cg_base.specs.Lists.{above_up_to}
+use Rattle.cg_base.specs.Lists.{above_up_to, Each}
 use Rattle.cg_action.specs.declared.action.Kind.{Kind}
 use Rattle.cg_action.specs.declared.action.Kind.TheVariants.{Update, Join as JoinKind, Leave as LeaveKind}
 use Rattle.cg_wire.specs.declared.message.Msg.{Msg}
 use Rattle.cg_group.specs.State.{GroupState, delivered_to, unordered_of, home}
 use Rattle.cg_group.specs.Refusals.{empty_set, any_of, not_up, merge_refusal}
 use Rattle.cg_group.specs.Events.{furthest, handed_in_split, deliveries_at, deliver, regulars, order_all}
-use Rattle.cg_group.specs.EachLaws.{Each, Each-append, Each-at}
+use Rattle.cg_group.specs.EachLaws.{Each-append, Each-at}
 use Rattle.cg_group.specs.declared.delivery.Delivery.TheVariants.{Regular as RegularIn}
 use Rattle.cg_client.specs.Replica.{Held, Replica}
 use Rattle.cg_model.specs.ReplicaStep.{Input, Deliveries, Asks as AsksOf}

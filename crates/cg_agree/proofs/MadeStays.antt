@@ -10,7 +10,7 @@ use Rattle.cg_base.specs.Ids.{names, same_id}
 use Rattle.cg_base.specs.IdLaws.{same_id-true}
 use Rattle.cg_base.specs.Cuts.{index_in}
 use Rattle.cg_queue.specs.Queue.{green_count, names_of}
-use Rattle.cg_group.specs.EachLaws.{Each}
+use Rattle.cg_base.specs.Lists.{Each}
 use Rattle.cg_client.specs.Replica.{Replica, created}
 use Rattle.cg_client.specs.Queries.{plain_reds, view_of}
 use Rattle.cg_report.specs.declared.entry.Made.{Made}
@@ -31,14 +31,16 @@ use Rattle.cg_agree_lemmas.specs.FrontFacts.{take-Front}
 use Rattle.cg_agree.proofs.LinesShown.{up-shown}
 use Rattle.cg_agree_lemmas.specs.MadeShown.{IsThere}
 use Rattle.cg_agree_lemmas.specs.MadeThere.{created-there}
-use Rattle.cg_agree.proofs.MadeTold.{names-last, each-contains, step-adds, made-told}
+use Rattle.cg_agree.proofs.MadeTold.{names-last, step-adds, made-told}
 use Rattle.cg_agree.proofs.OrderReached.{in-order}
 use Rattle.cg_agree_lemmas.specs.OrderTold.{order_told}
 use Rattle.cg_agree.proofs.PositionsGrow.{down-still}
 use Rattle.cg_disk_records.specs.Holds.{cut_behind}
-use Rattle.cg_agree.proofs.RunPrefix.{world-last, ComesThere, comes}
+use Rattle.cg_agree.proofs.RunPrefix.{ComesThere, comes}
 use Rattle.cg_agree.proofs.TellsRun.{HasTold, has-told}
 use Rattle.cg_disk_records.specs.RunMarkLaws.{run-names}
+use Rattle.cg_base.specs.ElementLaws.{each-contains}
+use Rattle.cg_model.specs.RunLaws.{world-last}
 
 -- ---- the names that were shown as made
 

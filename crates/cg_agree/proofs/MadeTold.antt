@@ -5,7 +5,8 @@ use Rattle.std.specs.Option.{option_map_or}
 use Rattle.std.proofs.lemmas.Bool.{cases_Bool, cond-true, cond-false, lt-ltb, and_from}
 use Rattle.std.proofs.lemmas.List.{append-nil, append_assoc, map-append}
 use Rattle.std.proofs.lemmas.List.Elements.{Contains-append_left, Contains-append_right}
-use Rattle.cg_group.specs.EachLaws.{Each, Each-append, Each-weaker}
+use Rattle.cg_base.specs.Lists.{Each}
+use Rattle.cg_group.specs.EachLaws.{Each-append, Each-weaker}
 use Rattle.cg_base.specs.declared.action_id.ActionId.{ActionId}
 use Rattle.cg_base.specs.Cuts.{index_in}
 use Rattle.cg_base.specs.Ids.{names, same_id}
@@ -35,6 +36,8 @@ use Rattle.cg_agree_lemmas.specs.MadeShown.{IsThere, AreLast, Adds, names_in}
 use Rattle.cg_agree.proofs.MadeEvents.{AddsSome, event-adds}
 use Rattle.cg_agree.proofs.RunForward.{IsStepOf}
 use Rattle.cg_disk_records.specs.RunMarkLaws.{run-names}
+use Rattle.cg_base.specs.ElementLaws.{each-contains}
+use Rattle.cg_model.specs.MadeLaws.{made-last}
 
 -- what was shown as made so far, against the world and the book
 pub record IsMadeTold (earlier : List Step) (c : Chronicle) (w : World) : Type 0 where
@@ -53,14 +56,6 @@ flat-last (x ∷ earlier) s = ap (λ list. x.entry.made ++ list) (flat-last earl
 pub names-last : (earlier : List Step) (s : Step) → made_names (through earlier s) ≡ made_names earlier ++ names_in s.entry.made
 names-last earlier s = ap (map (λ (m : Made). m.id)) (flat-last earlier s) ∙ map-append (λ (m : Made). m.id) (flat_map (λ s. s.entry.made) earlier) s.entry.made
 
-pub made-last : (before steps : List Step) (s : Step) → made_from before (through steps s) ≡ made_from before steps ++ map (made_at (through (before ++ steps) s)) s.entry.made
-made-last before [] s =
-    append-nil (map (made_at (through before s)) s.entry.made) ∙ ap (λ (xs : List Step). map (made_at (through xs s)) s.entry.made) (sym (append-nil before))
-made-last before (x ∷ steps) s =
-    ap (λ list. map (made_at (through before x)) x.entry.made ++ list) (made-last (through before x) steps s
-    ∙ ap (λ (xs : List Step). made_from (through before x) steps ++ map (made_at (through xs s)) s.entry.made) (append_assoc before (x ∷ []) steps))
-    ∙ sym (append_assoc (map (made_at (through before x)) x.entry.made) (made_from (through before x) steps) (map (made_at (through (before ++ x ∷ steps) s)) s.entry.made))
-
 -- ---- each as it was made
 
 pub found-in : (xs : List Action) (id : ActionId) (a : Action) → named_in xs id ≡ Some a → Contains xs a
@@ -71,11 +66,6 @@ found-in (x ∷ xs) id a e = elim (cases_Bool (same_id x.id id)) [
       (zero, (let less : 0 < suc (length xs) = omega arith in less), ap (λ o. option_map_or (λ y. y) o x) is)
   | inr other ↦ Contains-append_right (x ∷ []) xs a (found-in xs id a (sym (cond-false (same_id x.id id) (Some x) (named_in xs id) other) ∙ e))
 ]
-
-pub each-contains : {X : Type 0} (P : X → Type 0) (xs : List X) (x : X) → Each P xs → Contains xs x → P x
-each-contains P [] x each there = absurd (let none = there.1 in omega arith)
-each-contains P (y ∷ xs) x each (zero, less, is) = subst P is each.0
-each-contains P (y ∷ xs) x each (suc k, less, is) = each-contains P xs x each.1 (k, (let more : suc k < suc (length xs) = less in omega arith), is)
 
 -- how far replicas that are up have come, as their lines show it
 abbrev pub ArePlaced : List Step → World → Type 0

@@ -27,6 +27,7 @@ use Rattle.cg_agree_lemmas.specs.CoresKept.{held-known}
 use Rattle.cg_agree_lemmas.specs.TurnKinds.{HasInstalled, HasAttempted, new_record}
 use Rattle.cg_agree.proofs.AttemptSteps.{attempt-step}
 use Rattle.cg_agree.proofs.AttemptsCame.{Came, Stayed, WasLeft, WasEntered, WasInstalled, WasMade, came}
+use Rattle.cg_agree.proofs.InstalledIndexKept.{same-installed}
 
 -- ---- a state that speaks of an attempt has one
 
@@ -110,9 +111,6 @@ same-one r q e = ap (λ o. option_map_or (λ x. x) o r) e
 left-entered : (p n q : ℕ) (a : Attempt) → has (with_leaver p n a).entered q ≡ has a.entered q
 left-entered p n q a = cond_both (has a.entered p) (record a { left = a.left ++ record { member = p; count = n } ∷ [] }) a (λ (x : Attempt). has x.entered q ≡ has a.entered q) (λ y. refl) (λ n. refl)
 
-left-installed : (p n q : ℕ) (a : Attempt) → has (with_leaver p n a).installed q ≡ has a.installed q
-left-installed p n q a = cond_both (has a.entered p) (record a { left = a.left ++ record { member = p; count = n } ∷ [] }) a (λ (x : Attempt). has x.installed q ≡ has a.installed q) (λ y. refl) (λ n. refl)
-
 other-member : (set : List ℕ) (p q : ℕ) → (p == q) ≡ false → has (with_member set p) q ≡ has set q
 other-member set p q apart = has-with_member set p q ∙ ap (λ b. has set q || b) apart ∙ or-none (has set q) where
   or-none : (b : Bool) → (b || false) ≡ b
@@ -163,7 +161,7 @@ module _ (c : Chronicle) (s : Small) (i : Invariant c) (may : may_make c s ≡ t
   of_came : (b : Attempt) → Came c (small_step c s) k b → IsCounted b new
   of_came b (Stayed found) = as-old b b found refl refl refl
   of_came b (WasLeft a found p n here now low) =
-      as-old a b found (ap (λ (x : Attempt). x.conf) now ∙ (grown-leaver p n a).same.conf) (ap (λ (x : Attempt). has x.entered q) now ∙ left-entered p n q a) (ap (λ (x : Attempt). has x.installed q) now ∙ left-installed p n q a)
+      as-old a b found (ap (λ (x : Attempt). x.conf) now ∙ (grown-leaver p n a).same.conf) (ap (λ (x : Attempt). has x.entered q) now ∙ left-entered p n q a) (ap (λ (x : Attempt). has x.installed q) now ∙ same-installed p n q a)
   of_came b (WasEntered a found p heard t fresh begins now moved) = elim (cases_eq p q) [
     | inl same ↦
         let this : new ≡ fresh = same-one new fresh (sym after ∙ ap (replica_of (small_step c s).world) (sym same) ∙ moved) in

@@ -27,11 +27,12 @@ use Rattle.cg_agree_lemmas.specs.GroupSound.{GroupSound, ConfStep, made-is}
 use Rattle.cg_agree.proofs.GrowsKept.{grows-greens, grows-index, grows-told, grows-heard, grows-attempts, grows-levels, heard-rest}
 use Rattle.cg_agree.proofs.InstalledCountKept.{installed_count-kept}
 use Rattle.cg_agree.proofs.InvariantKept.{invariant-now}
-use Rattle.cg_agree.proofs.NetFactsKept.{group-of, fixed-in}
+use Rattle.cg_agree.proofs.NetFactsKept.{fixed-in}
 use Rattle.cg_agree_lemmas.specs.NextThere.{orders-now, receives-now}
 use Rattle.cg_agree_lemmas.specs.OneSteps.{OneStep, turns-step, hands-step, leaves-step, enters-step, commits-step, copies-step, crashes-step, recovers-step, joins-step, may-join, may-enter}
 use Rattle.cg_agree.proofs.OrderNow.{lists-reached, lists-reach}
 use Rattle.cg_agree.proofs.TalkFactsKept.{talk_legal-kept}
+use Rattle.cg_agree.proofs.AttemptSteps.{group-of}
 
 -- ---- a configuration keeps its members, or nothing is said in it
 

@@ -12,9 +12,7 @@ use Rattle.cg_agree_lemmas.specs.GroupSound.{GroupSound, sound-of, inside-of, cl
 use Rattle.cg_agree.proofs.PastKept.{past_left-kept}
 use Rattle.cg_agree.proofs.HostedKept.{hosted-kept}
 use Rattle.cg_agree_lemmas.specs.UnorderedKept.{unordered_regular-kept}
-
-pub group-of : (c : Chronicle) → Invariant c → GroupSound c
-group-of c i = sound-of c i.net.phase_sound i.net.receipts_inside i.net.sender_closed i.net.handed_received
+use Rattle.cg_agree.proofs.AttemptSteps.{group-of}
 
 pub fixed-in : (c : Chronicle) (s : Small) → Invariant c → may_make c s ≡ true → ReceiptsFixed c (small_step c s)
 fixed-in c s i m = receipts_fixed-kept c s i.net.hosted m (group-of c i)

@@ -44,9 +44,9 @@ use Rattle.cg_agree.proofs.ModeKept.{mode_data-kept}
 use Rattle.cg_agree.proofs.OneLine.{IsOnTop, reached-front, installed-on_top, level-on_top, handed-front}
 use Rattle.cg_agree_lemmas.specs.OneSteps.{hands-step, node-there}
 use Rattle.cg_agree_lemmas.specs.Reach.{greatest-bounds, acts-front}
-use Rattle.cg_agree.proofs.ReachedGrows.{attempt-is, top-grows, reached-grows, said-level}
+use Rattle.cg_agree.proofs.ReachedGrows.{top-grows, reached-grows, said-level}
 use Rattle.cg_agree_lemmas.specs.ReachSteps.{goes_on-kept}
-use Rattle.cg_agree_lemmas.specs.ReachWorld.{level-kept, act-bound, when-is}
+use Rattle.cg_agree_lemmas.specs.ReachWorld.{level-kept, act-bound, when-is, attempt-is}
 use Rattle.cg_agree_lemmas.specs.SameAttempt.{same-installation}
 use Rattle.cg_agree_lemmas.specs.SpineKept.{start-line}
 use Rattle.cg_agree.proofs.SpineNow.{TopMove, Stays as SameTop, Rises, top-move, reach-installed, opened-now, top-now, held-parts}

@@ -1,6 +1,6 @@
 -- One order grows: its places are numbered, each is printed in time, and it is shown as it stands.
 use Rattle.std.proofs.Common.{◌≡◌, List, Contains, refl, sym, ap, ◌∙◌, subst}
-use Rattle.cg_group.specs.EachLaws.{Each}
+use Rattle.cg_base.specs.Lists.{Each}
 use Rattle.cg_base.specs.declared.action_id.ActionId.{ActionId}
 use Rattle.cg_report.specs.declared.entry.Shown.{Shown}
 use Rattle.cg_report.specs.declared.entry.Shown.TheVariants.{All}
@@ -15,11 +15,12 @@ use Rattle.cg_model.specs.Agreement.{ComesAfter, through, OrderGrows}
 use Rattle.cg_model.specs.Chronicle.{Chronicle}
 use Rattle.cg_model.specs.Played.{AlwaysHolds}
 use Rattle.cg_agree_lemmas.specs.HappensShown.{OfShown, step-shows, each-shown}
-use Rattle.cg_agree.proofs.MadeTold.{each-contains}
 use Rattle.cg_agree.proofs.OrderInTime.{in-time}
 use Rattle.cg_agree_lemmas.specs.OrderTold.{order_told, places_told}
 use Rattle.cg_agree.proofs.RunForward.{IsStepOf}
-use Rattle.cg_agree.proofs.RunPrefix.{front-run, world-last, comes}
+use Rattle.cg_agree.proofs.RunPrefix.{comes}
+use Rattle.cg_base.specs.ElementLaws.{each-contains}
+use Rattle.cg_model.specs.RunLaws.{front-run, world-last}
 
 -- what a step shows is of this kind
 pub shown-of : (c : Chronicle) (w : World) (s : Step) → IsStepOf c w s → (x : Shown) → Contains s.entry.shown x → OfShown w s.event x

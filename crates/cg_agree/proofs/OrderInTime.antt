@@ -4,9 +4,8 @@ use Rattle.std.specs.Prelude.{◌==◌}
 use Rattle.std.specs.Option.{option_map_or, option_or}
 use Rattle.std.proofs.lemmas.Bool.{cond_both}
 use Rattle.std.proofs.lemmas.List.{map-append, length-append}
-use Rattle.cg_group.specs.EachLaws.{Each}
 use Rattle.cg_base.specs.declared.action_id.ActionId.{ActionId}
-use Rattle.cg_base.specs.Lists.{greatest, present}
+use Rattle.cg_base.specs.Lists.{greatest, present, Each}
 use Rattle.cg_queue.specs.Queue.{green_count}
 use Rattle.cg_group.specs.State.{phase_of}
 use Rattle.cg_client.specs.Replica.{Replica}
@@ -28,6 +27,7 @@ use Rattle.cg_agree.proofs.LinesShown.{lines-each, lines-last, position-shown}
 use Rattle.cg_agree.proofs.MadeTold.{step-adds}
 use Rattle.cg_agree.proofs.RunForward.{IsStepOf, of-run}
 use Rattle.cg_agree.proofs.TellsRun.{HasTold, told-on, nothing-told}
+use Rattle.cg_base.specs.ElementLaws.{present-append}
 
 -- ---- the greatest count
 
@@ -60,15 +60,10 @@ greatest-below n (k ∷ ns) each =
     let first = each.0 in
     omega arith
 
-present-both : (xs ys : List (Option UpLine)) → present (xs ++ ys) ≡ present xs ++ present ys
-present-both [] ys = refl
-present-both (None ∷ xs) ys = present-both xs ys
-present-both (Some x ∷ xs) ys = ap (λ list. x ∷ list) (present-both xs ys)
-
 counts-last : (earlier : List Step) (s : Step) → greatest (counts_of (all_up_lines (through earlier s))) ≡ max (greatest (counts_of (all_up_lines earlier))) (greatest (counts_of (ups_in s.entry.lines)))
 counts-last earlier s =
     let ups : all_up_lines (through earlier s) ≡ all_up_lines earlier ++ ups_in s.entry.lines =
-    ap ups_in (lines-last earlier s) ∙ ap present (map-append (λ (l : Line). l.up) (lines_in earlier) s.entry.lines) ∙ present-both (map (λ l. l.up) (lines_in earlier)) (map (λ l. l.up) s.entry.lines) in
+    ap ups_in (lines-last earlier s) ∙ ap present (map-append (λ (l : Line). l.up) (lines_in earlier) s.entry.lines) ∙ present-append (map (λ l. l.up) (lines_in earlier)) (map (λ l. l.up) s.entry.lines) in
     ap (λ list. greatest (counts_of list)) ups ∙ ap greatest (map-append (λ (up : UpLine). up.view.green_count) (all_up_lines earlier) (ups_in s.entry.lines))
     ∙ greatest-both (counts_of (all_up_lines earlier)) (counts_of (ups_in s.entry.lines))
 
@@ -87,7 +82,7 @@ last-below p (l ∷ lines) o =
     let first = one-below p l.id l.up o in
     let rest = last-below p lines (last_of p o l) in
     let ups : counts_of (ups_in (l ∷ lines)) ≡ counts_of (present (l.up ∷ [])) ++ counts_of (ups_in lines) =
-    ap counts_of (present-both (l.up ∷ []) (map (λ l. l.up) lines)) ∙ map-append (λ (up : UpLine). up.view.green_count) (present (l.up ∷ [])) (ups_in lines) in
+    ap counts_of (present-append (l.up ∷ []) (map (λ l. l.up) lines)) ∙ map-append (λ (up : UpLine). up.view.green_count) (present (l.up ∷ [])) (ups_in lines) in
     let both : greatest (counts_of (ups_in (l ∷ lines))) ≡ max (greatest (counts_of (present (l.up ∷ [])))) (greatest (counts_of (ups_in lines))) =
     ap greatest ups ∙ greatest-both (counts_of (present (l.up ∷ []))) (counts_of (ups_in lines)) in
     omega arith

@@ -21,11 +21,11 @@ use Rattle.cg_model.specs.Noting.{chronicle_after}
 use Rattle.cg_model.specs.Played.{AlwaysHolds}
 use Rattle.cg_agree.proofs.LinesShown.{lines-each}
 use Rattle.cg_agree.proofs.LongerBy.{IsFarBy, event-far}
-use Rattle.cg_agree.proofs.MadeTold.{each-contains}
 use Rattle.cg_agree_lemmas.specs.OrderTold.{order_told}
 use Rattle.cg_agree.proofs.PrimaryOne.{one-primary}
 use Rattle.cg_agree.proofs.RunForward.{IsStepOf}
 use Rattle.cg_agree.proofs.RunPrefix.{comes}
+use Rattle.cg_base.specs.ElementLaws.{each-contains}
 
 -- a state of a primary component
 abbrev IsPrimary : StateName → Type 0

@@ -4,7 +4,8 @@ use Rattle.std.proofs.Common.{◌≡◌, ℕ, zero, suc, ◌≤◌, ◌<◌, tru
 use Rattle.std.specs.Prelude.{nat_le}
 use Rattle.std.proofs.lemmas.Bool.{or_cases}
 use Rattle.std.proofs.lemmas.List.Elements.{Contains-append_right}
-use Rattle.cg_group.specs.EachLaws.{Each, Each-list_all}
+use Rattle.cg_base.specs.Lists.{Each}
+use Rattle.cg_group.specs.EachLaws.{Each-list_all}
 use Rattle.cg_base.specs.declared.action_id.ActionId.{ActionId}
 use Rattle.cg_base.specs.Ids.{same_id, names}
 use Rattle.cg_base.specs.Cuts.{index_in, raise}
@@ -25,8 +26,10 @@ use Rattle.cg_agree_lemmas.specs.FrontFacts.{Front-length, take-Front}
 use Rattle.cg_agree_lemmas.specs.HeldMarks.{counted}
 use Rattle.cg_disk_records.specs.Holds.{run_on}
 use Rattle.cg_agree.proofs.CreatorNumbered.{names-count, order-runs}
-use Rattle.cg_agree.proofs.MadeTold.{IsMadeTold, made-told, each-contains}
+use Rattle.cg_agree.proofs.MadeTold.{IsMadeTold, made-told}
 use Rattle.cg_disk_records.specs.RunMarkLaws.{run-head, run-rest}
+use Rattle.cg_base.specs.ElementLaws.{each-contains}
+use Rattle.cg_agree_lemmas.specs.MadeThere.{contains-named}
 
 pub names-drop : (n : ℕ) (list : List Action) → names_of (drop n list) ≡ drop n (names_of list)
 names-drop zero list = refl
@@ -74,13 +77,6 @@ pub run-some : (cut ids : List ActionId) → run_on cut ids ≡ true → Each (�
 run-some cut [] run = tt
 run-some cut (id ∷ ids) run = ((let next : id.index ≡ suc (index_in cut id.creator) = run-head cut id ids run in omega arith), run-some (raise cut id) ids (run-rest cut id ids run))
 
-names-contain : (ids : List ActionId) (id : ActionId) → names ids id ≡ true → Contains ids id
-names-contain [] id e = absurd (let clash : false ≡ true = e in cc)
-names-contain (x ∷ ids) id e = elim (or_cases (same_id id x) (names ids id) e) [
-  | inl here ↦ (zero, (let less : 0 < suc (length ids) = omega arith in less), sym (same_id-is id x here))
-  | inr later ↦ Contains-append_right (x ∷ []) ids id (names-contain ids id later)
-]
-
 pub named-each : (steps : List Step) (c : Chronicle) (w : World) → IsMadeTold steps c w → (ids : List ActionId) → Each (λ id. 1 ≤ id.index) ids → Each (λ id. nat_le id.index (index_in w.made id.creator) ≡ true) ids →
     Each (λ id. names (made_names steps) id ≡ true) ids
 named-each steps c w told [] some made = tt
@@ -94,4 +90,4 @@ order-named steps c w stands told =
 
 pub ordered-made : (steps : List Step) (c : Chronicle) (w : World) → StandsBeside c w → IsMadeTold steps c w → (id : ActionId) → Contains w.order id → Contains (made_names steps) id
 ordered-made steps c w stands told id there =
-    names-contain (made_names steps) id (each-contains (λ (x : ActionId). names (made_names steps) x ≡ true) w.order id (order-named steps c w stands told) there)
+    contains-named (made_names steps) id (each-contains (λ (x : ActionId). names (made_names steps) x ≡ true) w.order id (order-named steps c w stands told) there)

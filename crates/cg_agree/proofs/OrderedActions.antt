@@ -4,10 +4,9 @@ use Rattle.std.specs.Option.{option_map_or}
 use Rattle.std.proofs.lemmas.Bool.{cases_Bool, cond-true, cond-false, or_cases}
 use Rattle.std.proofs.lemmas.List.{map-append}
 use Rattle.std.proofs.lemmas.List.Elements.{Contains-append_right}
-use Rattle.cg_group.specs.EachLaws.{Each}
 use Rattle.cg_base.specs.declared.action_id.ActionId.{ActionId}
 use Rattle.cg_base.specs.Ids.{same_id, names}
-use Rattle.cg_base.specs.Lists.{present}
+use Rattle.cg_base.specs.Lists.{present, Each}
 use Rattle.cg_base.specs.IdLaws.{same_id-is}
 use Rattle.cg_action.specs.declared.action.Action.{Action}
 use Rattle.cg_queue.specs.Queue.{names_of}
@@ -20,21 +19,12 @@ use Rattle.cg_model.specs.Chronicle.{Chronicle}
 use Rattle.cg_model.specs.Fronts.{Front}
 use Rattle.cg_model.specs.Played.{StandsBeside}
 use Rattle.cg_agree_lemmas.specs.BookGrows.{IsNamed, named_in, same-self, named-all}
-use Rattle.cg_agree.proofs.MadeTold.{IsMadeTold, as-made, each-contains}
+use Rattle.cg_agree.proofs.MadeTold.{IsMadeTold, as-made}
 use Rattle.cg_agree.proofs.OrderReached.{order-named}
+use Rattle.cg_base.specs.ElementLaws.{each-contains}
+use Rattle.cg_model.specs.MadeLaws.{names-from}
 
 -- ---- names
-
-names-at : (steps : List Step) (made : List Made) → names_of (map (made_at steps) made) ≡ map (λ m. m.id) made
-names-at steps [] = refl
-names-at steps (m ∷ made) = ap (λ ids. m.id ∷ ids) (names-at steps made)
-
-names-from : (earlier steps : List Step) → names_of (made_from earlier steps) ≡ made_names steps
-names-from earlier [] = refl
-names-from earlier (s ∷ steps) =
-    map-append (λ (a : Action). a.id) (map (made_at (earlier ++ s ∷ [])) s.entry.made) (made_from (earlier ++ s ∷ []) steps)
-    ∙ ap₂ ◌++◌ (names-at (earlier ++ s ∷ []) s.entry.made) (names-from (earlier ++ s ∷ []) steps)
-    ∙ sym (map-append (λ (m : Made). m.id) s.entry.made (flat_map (λ (s : Step). s.entry.made) steps))
 
 -- a name that stands in a list is found there
 record IsFoundIn (list : List Action) (id : ActionId) : Type 0 where

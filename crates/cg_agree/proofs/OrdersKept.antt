@@ -59,12 +59,11 @@ use Rattle.cg_model.specs.Noting.{chronicle_step, played}
 use Rattle.cg_model.specs.Played.{IsSame, KeptBySmalls, MayBeMade, StandsBeside, with_world}
 use Rattle.cg_model.specs.Run.{MayStand}
 use Rattle.cg_base.specs.Cuts.{index_in}
-use Rattle.cg_base.specs.Lists.{above_up_to}
+use Rattle.cg_base.specs.Lists.{above_up_to, Each}
 use Rattle.cg_base.specs.Weights.{ids}
 use Rattle.cg_base.specs.declared.action_id.ActionId.{ActionId}
 use Rattle.cg_base.specs.declared.weighted.Weighted.{Weighted}
 use Rattle.cg_client.specs.Replica.{Held, Replica}
-use Rattle.cg_group.specs.EachLaws.{Each}
 use Rattle.cg_group.specs.State.{GroupState, delivered_to, home}
 use Rattle.cg_group.specs.declared.delivery.Handed.{Handed}
 use Rattle.cg_queue.specs.Queue.{green_count, names_of}

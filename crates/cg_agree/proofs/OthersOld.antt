@@ -4,7 +4,8 @@ use Rattle.std.specs.Prelude.{◌==◌}
 use Rattle.std.specs.Option.{option_map_or}
 use Rattle.std.proofs.lemmas.Bool.{cases_Bool, cond-true, cond-false}
 use Rattle.cg_base.specs.Sets.{has}
-use Rattle.cg_group.specs.EachLaws.{Each, Each-weaker}
+use Rattle.cg_base.specs.Lists.{Each}
+use Rattle.cg_group.specs.EachLaws.{Each-weaker}
 use Rattle.cg_group.specs.State.{GroupState, phase_of}
 use Rattle.cg_wire.specs.declared.message.Msg.{Msg}
 use Rattle.cg_report.specs.declared.line.Line.{Line}
@@ -28,15 +29,11 @@ use Rattle.cg_agree.proofs.AlwaysMade.{always-holds}
 use Rattle.cg_agree.proofs.EventsLead.{are-admitted, always-stands}
 use Rattle.cg_agree_lemmas.specs.HappensLines.{happens-lines}
 use Rattle.cg_agree.proofs.LinesShown.{ArePrinted, stepped-printed, each-find}
-use Rattle.cg_agree.proofs.PrimaryOne.{IsFoundFrom, found-all}
+use Rattle.cg_agree.proofs.PrimaryOne.{IsFoundFrom, found-all, holds-here}
 use Rattle.cg_equalities.specs.LineLaws.{self-line}
 use Rattle.cg_agree_lemmas.specs.TouchedNodes.{happens-stays}
 
 -- ---- worlds that events lead to
-
-holds-here : (c : Chronicle) (w : World) (events : List Event) → HoldsFrom c w events → StandsBeside c w
-holds-here c w [] holds = holds
-holds-here c w (e ∷ events) holds = holds.0
 
 nodes-rise : (c : Chronicle) (w : World) → StandsBeside c w → IsRising 0 (map (λ s. s.id) w.nodes)
 nodes-rise c w stands = subst (IsRising 0) (sym stands.same.nodes) stands.facts.lists.nodes

@@ -46,7 +46,7 @@ pub whitened-created : (h : Held) → created (whiten h) ≡ created h
 unfolding whiten
 whitened-created h = refl
 
-some-is : (x y : Replica) → Some x ≡ Some y → x ≡ y
+pub some-is : (x y : Replica) → Some x ≡ Some y → x ≡ y
 some-is x y e = ap (λ (o : Option Replica). option_map_or (λ z. z) o x) e
 
 whole : (b : Bool) → ((b && true) || false) ≡ b

@@ -80,15 +80,7 @@ use Rattle.cg_agree_lemmas.specs.TurnValues.{even-mark_yellow}
 use Rattle.cg_queue.specs.MarkLaws.{red-placed}
 use Rattle.cg_agree_lemmas.specs.PartingIdle.{taken-append, alone-taken, left-taken}
 use Rattle.cg_disk_records.specs.RunLaws.{cut_behind-append}
-
-counted : (from n k : ℕ) → from ≤ k → k < from + n → has (count_up from n) k ≡ true
-counted from zero k le lt = absurd (omega arith)
-counted from (suc n) k le lt = elim (cases_eq from k) [
-  | inl e ↦ or_left (from == k) (has (count_up (suc from) n) k) (eq-eqb from k e)
-  | inr apart ↦ or_right (from == k) (has (count_up (suc from) n) k) (counted (suc from) n k (above from k le apart) (omega arith))
-] where
-  above : (from k : ℕ) → from ≤ k → (from ≡ k → ⊥) → suc from ≤ k
-  above from k le apart = elim (cases_eq from k) [ inl e ↦ absurd (apart e) | inr other ↦ omega (arith, le, other) ]
+use Rattle.cg_agree_lemmas.specs.PlacesBegin.{counted}
 
 -- what ascends is above the first number
 ascends-above : (xs : List ℕ) (low high x : ℕ) → ascend_within low high xs ≡ true → has xs x ≡ true → low < x

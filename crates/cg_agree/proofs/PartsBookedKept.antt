@@ -17,7 +17,7 @@ use Rattle.cg_model.specs.Small.{Small, Starts, Makes, Enters, Orders, Receives,
 use Rattle.cg_model.specs.Smalls.{may_make}
 use Rattle.cg_agree.proofs.AttemptListKept.{more-booked}
 use Rattle.cg_agree.proofs.AttemptSteps.{attempt-step}
-use Rattle.cg_agree.proofs.AttemptsCame.{Came, Stayed, WasLeft, WasEntered, WasInstalled, WasMade, came}
+use Rattle.cg_agree.proofs.AttemptsCame.{Came, Stayed, WasLeft, WasEntered, WasInstalled, WasMade, came, some-is}
 use Rattle.cg_agree.proofs.BookedParts.{booked-both, new-booked}
 use Rattle.cg_agree.proofs.ExchangeBehind.{up-now}
 use Rattle.cg_agree_lemmas.specs.HandsNow.{hands-now, new, running-now}
@@ -78,9 +78,6 @@ book-grows c (Crashes p) = book-found c (node_of c.world p) (λ s. crash_as c p 
 book-grows c (Recovers p) = book-found c (node_of c.world p) (λ s. recover_as c s.life) (λ s. book-recovers c s.life)
 book-grows c (Copies p joiner) = book-found c (replica_of c.world p) (copy_as c p joiner) (λ r. refl)
 book-grows c (Joins joiner) = book-found c (snapshot_of c.world joiner) (λ s. join_with c joiner s.content) (λ s. refl)
-
-some-is : {X : Type 0} (x y : X) → Some x ≡ Some y → x ≡ y
-some-is x y e = ap (λ o. option_map_or (λ z. z) o x) e
 
 -- ---- the parts
 

@@ -24,7 +24,7 @@ use Rattle.cg_model.specs.Facts.{Invariant}
 use Rattle.cg_model.specs.Small.{Small, Starts, Makes, Enters, Orders, Receives, Hands, Leaves, Asks, Settles, Commits, Crashes, Recovers, Copies, Joins, start, small_step}
 use Rattle.cg_model.specs.Smalls.{may_make, is_set}
 use Rattle.cg_agree.proofs.AttemptSteps.{IsHanded, attempt-step}
-use Rattle.cg_agree.proofs.AttemptsCame.{Begins, Came, Stayed, WasLeft, WasEntered, WasInstalled, WasMade, came}
+use Rattle.cg_agree.proofs.AttemptsCame.{Begins, Came, Stayed, WasLeft, WasEntered, WasInstalled, WasMade, came, some-is}
 use Rattle.cg_agree.proofs.BegunKept.{nothing-before}
 use Rattle.cg_agree.proofs.BuiltThere.{built}
 use Rattle.cg_agree.proofs.DeadKept.{said-by}
@@ -39,9 +39,6 @@ use Rattle.cg_agree_lemmas.specs.PlanEnd.{AtPlanEnd}
 use Rattle.cg_agree.proofs.ShapeKept.{MadeParts, same-end, shape-kept}
 use Rattle.cg_agree.proofs.ToldStays.{told-stays}
 use Rattle.cg_agree_lemmas.specs.TurnKinds.{HasAttempted}
-
-some-is : {X : Type 0} (x y : X) → Some x ≡ Some y → x ≡ y
-some-is x y e = ap (λ o. option_map_or (λ z. z) o x) e
 
 each-true : (heard : List Summary) → OfEach (λ s. Unit {0}) heard
 each-true [] = tt

@@ -22,8 +22,9 @@ use Rattle.cg_agree.proofs.OrderGrowsRun.{shown-of}
 use Rattle.cg_agree.proofs.OrderReached.{reaches-order}
 use Rattle.cg_agree_lemmas.specs.OrderTold.{order_told}
 use Rattle.cg_agree.proofs.PositionsGrow.{moves}
-use Rattle.cg_agree.proofs.RunPrefix.{ComesThere, world-last, comes}
+use Rattle.cg_agree.proofs.RunPrefix.{ComesThere, comes}
 use Rattle.cg_agree.proofs.TellsRun.{has-told}
+use Rattle.cg_model.specs.RunLaws.{world-last}
 
 module _ (always : AlwaysHolds) (steps : List Step) (run : IsRunFrom no_world steps) where
   pub never-falls : (earlier : List Step) (s : Step) (p : ℕ) → ComesAfter steps earlier s → position_of p earlier ≤ position_of p (through earlier s)

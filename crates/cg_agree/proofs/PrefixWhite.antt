@@ -2,7 +2,7 @@
 use Rattle.std.proofs.Common.{◌⊎◌, ◌≡◌, ℕ, ◌<◌, ◌≤◌, true, false, List, [], ◌∷◌, take, length, sym, ap, ap₂, ◌∙◌, subst, inl, inr, arith}
 use Rattle.std.specs.Prelude.{◌+◌, ◌==◌}
 use Rattle.std.proofs.lemmas.Bool.{cases_Bool, cases_lt, eqb-true}
-use Rattle.cg_group.specs.EachLaws.{Each}
+use Rattle.cg_base.specs.Lists.{Each}
 use Rattle.cg_base.specs.declared.weighted.Weighted.{Weighted}
 use Rattle.cg_action.specs.declared.action.Action.{Action}
 use Rattle.cg_members.specs.Listed.{line_of}
@@ -24,12 +24,13 @@ use Rattle.cg_agree.proofs.CreatorNumbered.{stands-of, names-count}
 use Rattle.cg_agree.proofs.DownAgrees.{down-prefix}
 use Rattle.cg_agree_lemmas.specs.LinesGreens.{join-within, join-front}
 use Rattle.cg_agree_lemmas.specs.LinesTold.{JoinsBelow, greens-below, first-lines}
-use Rattle.cg_agree.proofs.MadeTold.{each-contains}
 use Rattle.cg_agree.proofs.OrderedActions.{IsShownAs, each-shown_as, ordered-as, booked-front}
 use Rattle.cg_agree_lemmas.specs.OrderTold.{order_told}
 use Rattle.cg_agree.proofs.PrefixRun.{never-falls, moves-only, held, shown}
-use Rattle.cg_agree.proofs.RunPrefix.{world-last, comes}
+use Rattle.cg_agree.proofs.RunPrefix.{comes}
 use Rattle.cg_agree.proofs.WhiteTold.{IsReachedLine, AreKept, are-kept}
+use Rattle.cg_base.specs.ElementLaws.{each-contains}
+use Rattle.cg_model.specs.RunLaws.{world-last}
 
 module _ (steps : List Step) (c : Chronicle) (w : World) (stands : StandsBeside c w) (k : AreKept steps c w) (order : w.order ≡ order_of steps) (p q : ℕ) where
   abbrev mine : List Action

@@ -4,10 +4,10 @@ use Rattle.std.specs.Prelude.{◌==◌, nat_le}
 use Rattle.std.specs.Option.{option_map_or}
 use Rattle.std.proofs.lemmas.Bool.{cond_both}
 use Rattle.std.proofs.lemmas.List.{append_assoc, append-nil}
-use Rattle.cg_group.specs.EachLaws.{Each, Each-append}
+use Rattle.cg_group.specs.EachLaws.{Each-append}
 use Rattle.cg_group.specs.PlaceLaws.{at_place-append}
 use Rattle.cg_base.specs.declared.weighted.Weighted.{Weighted}
-use Rattle.cg_base.specs.Lists.{at_place}
+use Rattle.cg_base.specs.Lists.{at_place, Each}
 use Rattle.cg_action.specs.declared.action.Kind.TheVariants.{Update, Join as JoinKind, Leave as LeaveKind}
 use Rattle.cg_members.specs.Servers.{members_of}
 use Rattle.cg_records.specs.declared.primary.Primary.{Primary}
@@ -35,6 +35,7 @@ use Rattle.cg_agree.proofs.BegunKept.{start-turning, start-joins}
 use Rattle.cg_agree_lemmas.specs.SameAttempt.{KeepsAttempts, keeps-refl, keeps-then, attempts-kept}
 use Rattle.cg_agree_lemmas.specs.ReachWorld.{MoreLevels, levels-kept}
 use Rattle.cg_client.specs.Joined.{piece_count}
+use Rattle.cg_agree.proofs.AttemptsCame.{some-is}
 
 -- ---- small steps
 
@@ -232,9 +233,6 @@ known-stays c d prim on is = elim is [
       })
 ]
 
-some-same : {X : Type 0} (x y : X) → Some x ≡ Some y → x ≡ y
-some-same x y e = ap (λ o. option_map_or (λ z. z) o x) e
-
 -- Two that are known of one index are one.
 pub known-same : (c : Chronicle) (a b : Primary) → IsKnownIn c a → IsKnownIn c b → a.index ≡ b.index → (a.conf ≡ b.conf) × (a.set ≡ b.set)
 known-same c a b of_a of_b same = elim of_a [
@@ -245,8 +243,8 @@ known-same c a b of_a of_b same = elim of_a [
   | inr one ↦ elim of_b [
     | inl two ↦ absurd (let none = two.0 in let some = one.some in omega arith)
     | inr two ↦
-        let conf : one.conf ≡ two.conf = some-same one.conf two.conf (sym one.place ∙ ap (at_place c.levels) same ∙ two.place) in
-        let attempt : one.attempt ≡ two.attempt = some-same one.attempt two.attempt (sym one.found ∙ ap (attempt_of c) conf ∙ two.found) in
+        let conf : one.conf ≡ two.conf = some-is one.conf two.conf (sym one.place ∙ ap (at_place c.levels) same ∙ two.place) in
+        let attempt : one.attempt ≡ two.attempt = some-is one.attempt two.attempt (sym one.found ∙ ap (attempt_of c) conf ∙ two.found) in
         let prims : a ≡ b = one.is ∙ ap₂ (prim_of c) same attempt ∙ sym two.is in
         (ap (λ (x : Primary). x.conf) prims, ap (λ (x : Primary). x.set) prims)
   ]

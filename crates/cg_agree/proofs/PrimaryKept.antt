@@ -35,11 +35,9 @@ use Rattle.cg_agree_lemmas.specs.CoresKept.{past-there}
 use Rattle.cg_agree.proofs.ExchangeBehind.{up-now}
 use Rattle.cg_agree.proofs.ExchangeSmalls.{greens-turning, replica-behind, greens-behind, greens-settle, greens-request}
 use Rattle.cg_agree.proofs.GreenLine.{HasGreenLine, as-before}
-use Rattle.cg_agree.proofs.GreensFront.{commit-same}
 use Rattle.cg_agree_lemmas.specs.GroupKept.{leaving-regular}
 use Rattle.cg_agree_lemmas.specs.HandSays.{find-holds}
 use Rattle.cg_agree_lemmas.specs.HeldCommit.{recovered-id}
-use Rattle.cg_agree.proofs.LevelsOpen.{when-from}
 use Rattle.cg_agree_lemmas.specs.HandsKept.{hosted}
 use Rattle.cg_agree_lemmas.specs.HandsNow.{HandsNow, hands-now, hands-regular, hand-turned, new}
 use Rattle.cg_agree.proofs.ModeKept.{mode_data-kept}
@@ -57,13 +55,14 @@ use Rattle.cg_agree.proofs.TalkFactsKept.{mode_fits-kept, talk_legal-kept}
 use Rattle.cg_agree.proofs.TalkQuiet.{replica-turning}
 use Rattle.cg_agree_lemmas.specs.TurnKinds.{IsQuiet, Turned, Quiet, Installs, Decides, Attempts}
 use Rattle.cg_agree_lemmas.specs.TurnParts.{settle-quiet, request-quiet, newest-come}
+use Rattle.cg_agree_lemmas.specs.TurnAlong.{commit-same}
+use Rattle.cg_agree_lemmas.specs.ListStill.{when-from}
+use Rattle.cg_agree.proofs.ModeStates.{from-primary}
+use Rattle.cg_agree.proofs.OwedKept.{some-is}
 
 -- what a member of a primary component in its regular phase has
 abbrev pub LineAt : Chronicle → ℕ → Type 0
 LineAt d q = (new : Replica) → replica_of d.world q ≡ Some new → new.state ≡ RegPrim → HasGreenLine d q (attempt_at d new.held.prim.index)
-
-replica-is : (x y : Replica) → Some x ≡ Some y → x ≡ y
-replica-is x y e = ap (λ o. option_map_or (λ z. z) o x) e
 
 -- it is in a regular phase
 regular-now : (d : Chronicle) → ModeFits d → (q : ℕ) (new : Replica) → replica_of d.world q ≡ Some new → new.state ≡ RegPrim → (k : ℕ) × (phase_of d.world.group q ≡ Regular k)
@@ -102,7 +101,7 @@ module _ (c : Chronicle) (i : Invariant c) where
   line-quiet : (s : Small) → may_make c s ≡ true → (p : ℕ) (r after : Replica) → replica_of c.world p ≡ Some r → replica_of (small_step c s).world p ≡ Some after → is_primary after.state ≡ is_primary r.state → after.held.prim ≡ r.held.prim →
       Stands c.world.group (small_step c s).world.group p (phase_of c.world.group p) (delivered_to c.world.group p) (is_up c.world.group p) → greens_of (small_step c s) p ≡ greens_of c p → LineAt (small_step c s) p
   line-quiet s may p r after up there primary prim stands greens new is regular =
-      let same : after ≡ new = replica-is after new (sym there ∙ is) in
+      let same : after ≡ new = some-is after new (sym there ∙ is) in
       let k = regular-now (small_step c s) (mode_fits-kept c s i may) p new is regular in
       as-before c s i may p k.0 new (record {
         old = r;
@@ -144,7 +143,7 @@ module _ (c : Chronicle) (i : Invariant c) where
       let come = newest-come g n.replica n.between in
       let there = replica-behind (coming c p) p part n.replica n.disk n.node in
       line-one (Enters p) may p (Regular (newest_conf g)) 0 true step.stands (λ q other. replica-turning (coming c p) p part q other) (λ q other. greens-turning (coming c p) p part q other)
-      (λ new is regular. absurd (let clash : true ≡ false = sym (ap is_primary regular) ∙ ap (λ (x : Replica). is_primary x.state) (replica-is new (part (begin n.replica)).replica (sym is ∙ there)) ∙ ap is_primary come.state in cc))
+      (λ new is regular. absurd (let clash : true ≡ false = sym (ap is_primary regular) ∙ ap (λ (x : Replica). is_primary x.state) (some-is new (part (begin n.replica)).replica (sym is ∙ there)) ∙ ap is_primary come.state in cc))
 
   leaves-line : (p : ℕ) (set : List ℕ) (own : ℕ) (places : List ℕ) → may_make c (Leaves p set own places) ≡ true → (q : ℕ) → LineAt (small_step c (Leaves p set own places)) q
   unfolding small_step
@@ -269,7 +268,7 @@ module _ (c : Chronicle) (i : Invariant c) where
 
         own : (n : HandsNow c p) → LineAt (small_step c (Hands p)) p
         own n x is regular =
-            let same : new c p i n ≡ x = replica-is (new c p i n) x (sym (up-now c p i may n) ∙ is) in
+            let same : new c p i n ≡ x = some-is (new c p i n) x (sym (up-now c p i may n) ∙ is) in
             subst (λ (r : Replica). HasGreenLine (small_step c (Hands p)) p (attempt_at (small_step c (Hands p)) r.held.prim.index)) same
             (by n (ap (λ (r : Replica). r.state) same ∙ regular) (hand-turned c p i n))
 
@@ -314,17 +313,6 @@ handed-at d p a Un f = tt
 handed-at d p a (NonPrim regular) f = tt
 handed-at d p a Left f = tt
 
-pub primary-data : (d : Chronicle) (h : Held) (phase : Phase) (state : State) → is_primary state ≡ true → HasModeData d h phase state → IsInPrimary d h (conf_at phase)
-primary-data d h phase RegPrim is data_of = data_of.0
-primary-data d h phase TransPrim is data_of = data_of.0
-primary-data d h phase (ExchangeStates conf set heard) is data_of = absurd (let clash : false ≡ true = is in cc)
-primary-data d h phase (ExchangeActions conf heard accepted) is data_of = absurd (let clash : false ≡ true = is in cc)
-primary-data d h phase (Construct conf heard) is data_of = absurd (let clash : false ≡ true = is in cc)
-primary-data d h phase (No conf heard) is data_of = absurd (let clash : false ≡ true = is in cc)
-primary-data d h phase Un is data_of = absurd (let clash : false ≡ true = is in cc)
-primary-data d h phase (NonPrim regular) is data_of = absurd (let clash : false ≡ true = is in cc)
-primary-data d h phase Left is data_of = absurd (let clash : false ≡ true = is in cc)
-
 -- In a primary component all greens are the installation and the actions handed.
 pub primary_greens-kept : (c : Chronicle) (s : Small) → Invariant c → may_make c s ≡ true → PrimaryGreens (small_step c s)
 primary_greens-kept c s i may p = at (replica_of d.world p) refl (mode_data-kept c s i may p) where
@@ -335,7 +323,7 @@ primary_greens-kept c s i may p = at (replica_of d.world p) refl (mode_data-kept
   line r up mode primary =
       let k = conf_at (phase_of d.world.group p) in
       let b = attempt_at d r.held.prim.index in
-      let in_it = primary-data d r.held (phase_of d.world.group p) r.state primary mode.data_of in
+      let in_it = from-primary d r.held (phase_of d.world.group p) r.state primary mode.data_of in
       let counted : IsCounted b r = subst (λ (o : Option Attempt). IfSome o (λ a. IsCounted a r)) in_it.opened mode.counted in
       let shape : IsAttempt d k b = subst (λ (o : Option Attempt). IfSome o (IsAttempt d k)) in_it.opened (attempt_shape-kept c s i may (talk_legal-kept c s i may) k) in
       let installed : has b.installed p ≡ true = ap (has b.installed) (sym mode.id) ∙ counted.installed ∙ primary in

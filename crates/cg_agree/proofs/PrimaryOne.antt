@@ -2,8 +2,8 @@
 use Rattle.std.proofs.Common.{◌⊎◌, ◌≡◌, ℕ, zero, suc, ◌≤◌, ◌<◌, List, [], ◌∷◌, map, filter, find, length, Option, Some, None, IfSome, Contains, refl, sym, ap, ◌∙◌, subst, inl, inr, arith, eq-eqb, option_and_then}
 use Rattle.std.specs.Prelude.{◌==◌}
 use Rattle.std.proofs.lemmas.Bool.{cases_eq, cond-true, cond-false, ne_eqb}
-use Rattle.cg_group.specs.EachLaws.{Each, Each-weaker, Each-filter, Each-append}
-use Rattle.cg_base.specs.Lists.{present}
+use Rattle.cg_group.specs.EachLaws.{Each-weaker, Each-filter, Each-append}
+use Rattle.cg_base.specs.Lists.{present, Each}
 use Rattle.cg_base.specs.declared.weighted.Weighted.{Weighted}
 use Rattle.cg_records.specs.declared.primary.Primary.{Primary}
 use Rattle.cg_wire.specs.declared.message.Msg.{Msg}
@@ -29,6 +29,7 @@ use Rattle.cg_model.specs.NodeLaws.{IsHosted, nodes_stay}
 use Rattle.cg_agree_lemmas.specs.ReachWorld.{opened-at, opened-attempt}
 use Rattle.cg_agree.proofs.CreatorNumbered.{admitted-of}
 use Rattle.cg_agree.proofs.PrimStays.{StaysOn, stays-refl, stays-then, event-stays, IsKnownIn, known-stays, known-same}
+use Rattle.cg_base.specs.ElementLaws.{each-contains}
 
 -- ---- a replica knows the component of its index
 
@@ -158,11 +159,6 @@ each-present P (l ∷ lines) each = at l.up each.0 (each-present P lines each.1)
   at : (o : Option UpLine) → IfSome o P → Each P (present (map (λ l. l.up) lines)) → Each P (present (o ∷ map (λ l. l.up) lines))
   at None is rest = rest
   at (Some up) is rest = (is, rest)
-
-each-contains : (P : UpLine → Type 0) (xs : List UpLine) (x : UpLine) → Each P xs → Contains xs x → P x
-each-contains P [] x each there = absurd (let none = there.1 in omega arith)
-each-contains P (y ∷ xs) x each (zero, less, is) = subst P is each.0
-each-contains P (y ∷ xs) x each (suc k, less, is) = each-contains P xs x each.1 (k, (let more : suc k < suc (length xs) = less in omega arith), is)
 
 -- No primary index names two components.
 pub one-primary : AlwaysHolds → (steps : List Step) → IsRunFrom no_world steps → (a b : UpLine) → Contains (all_up_lines steps) a → Contains (all_up_lines steps) b →

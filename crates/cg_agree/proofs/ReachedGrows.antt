@@ -19,23 +19,15 @@ use Rattle.cg_model.specs.Played.{AtRest}
 use Rattle.cg_model.specs.Small.{Small, small_step}
 use Rattle.cg_model.specs.Smalls.{may_make}
 use Rattle.cg_agree.proofs.AttemptSteps.{attempt-step}
-use Rattle.cg_agree.proofs.AttemptsCame.{Came, Stayed, WasLeft, WasEntered, WasInstalled, WasMade, came}
+use Rattle.cg_agree.proofs.AttemptsCame.{Came, Stayed, WasLeft, WasEntered, WasInstalled, WasMade, came, some-is}
 use Rattle.cg_agree_lemmas.specs.AttemptsGrow.{Grown, attempts-grow}
 use Rattle.cg_agree.proofs.CountsMove.{count-move, found-conf}
 use Rattle.cg_agree.proofs.DeadKept.{said-attempt, any-of}
 use Rattle.cg_agree.proofs.InstalledIndexKept.{same-installed}
 use Rattle.cg_agree_lemmas.specs.Reach.{greatest-least, greatest-bounds, greatest-grows}
 use Rattle.cg_agree_lemmas.specs.ReachFacts.{all-at}
-use Rattle.cg_agree_lemmas.specs.ReachWorld.{opened-at, opened-attempt, levels-kept, level-counted, reach-kept, frozen-stays}
+use Rattle.cg_agree_lemmas.specs.ReachWorld.{opened-at, opened-attempt, levels-kept, level-counted, reach-kept, frozen-stays, attempt-is}
 use Rattle.cg_agree_lemmas.specs.SpineKept.{LevelsGoOn, start-reach}
-
-some-is : {X : Type 0} (x y : X) → Some x ≡ Some y → x ≡ y
-some-is x y e = ap (λ o. option_map_or (λ z. z) o x) e
-
-pub attempt-is : (c : Chronicle) (level conf : ℕ) (a : Attempt) → at_place c.levels level ≡ Some conf → attempt_of c conf ≡ Some a → attempt_at c level ≡ a
-attempt-is c level conf a place found =
-    ap (λ o. option_map_or (λ a. a) (option_and_then (attempt_of c) o) (no_attempt c.start)) place
-    ∙ ap (λ o. option_map_or (λ a. a) o (no_attempt c.start)) found
 
 -- a level that stands, before a step and behind it
 pub record Levelled (c d : Chronicle) (level : ℕ) : Type 0 where

@@ -3,7 +3,7 @@
 use Rattle.std.proofs.Common.{◌≡◌, ℕ, ◌≤◌, false, List, [], ◌∷◌, ◌++◌, Option, Some, None, IfSome, is_some, option_and_then, option_map, refl, sym, ap, ◌∙◌, subst, arith}
 use Rattle.cg_base.specs.Cuts.{index_in}
 use Rattle.cg_action.specs.declared.action.Action.{Action}
-use Rattle.cg_group.specs.EachLaws.{Each}
+use Rattle.cg_base.specs.Lists.{Each}
 use Rattle.cg_client.specs.Replica.{Replica}
 use Rattle.cg_model.specs.FactsBooks.{IsActionShown, KeepsUnshown, MadeFits, OrderFits, NodeIsDown, NodeShown}
 use Rattle.cg_model.specs.World.{NodeState, Up, Down, Node, World, no_world, running, has_begun, node_of, replica_of}

@@ -38,13 +38,12 @@ use Rattle.cg_model.specs.FactsGreens.{Covers, CoversLevel}
 use Rattle.cg_agree.proofs.AttemptsCover.{lead-of, attempts-cover}
 use Rattle.cg_agree_lemmas.specs.CoresKept.{held-known}
 use Rattle.cg_agree.proofs.CoversStay.{start-covers, covers-more}
-use Rattle.cg_agree_lemmas.specs.EndCuts.{run-below, run-above}
+use Rattle.cg_agree_lemmas.specs.EndCuts.{run-below, run-above, all-same}
 use Rattle.cg_agree.proofs.EndShown.{ToldCovers, Leads, member-shows}
 use Rattle.cg_agree_lemmas.specs.FrontFacts.{Front-map, split_by_Front, common-covers}
 use Rattle.cg_agree_lemmas.specs.HandsNow.{whole-through}
 use Rattle.cg_agree_lemmas.specs.HeldMarks.{IsOneself, rising-green, are_within}
 use Rattle.cg_agree_lemmas.specs.Knowledge.{known-of, each-bounded, some-sender}
-use Rattle.cg_agree.proofs.LevelsOpen.{when-from}
 use Rattle.cg_agree_lemmas.specs.PartsNamed.{actions-names}
 use Rattle.cg_agree_lemmas.specs.PlanEnd.{is_behind, behind-ended}
 use Rattle.cg_agree_lemmas.specs.ReachWorld.{when-is}
@@ -55,6 +54,8 @@ use Rattle.cg_agree.proofs.ToldLine.{Behind, begun-reach, told-begun, told-fits,
 use Rattle.cg_agree_lemmas.specs.YellowMeets.{reds-named}
 use Rattle.cg_disk_records.specs.RunLaws.{run_on-append}
 use Rattle.cg_agree_lemmas.specs.RunFronts.{run_on-front}
+use Rattle.cg_agree_lemmas.specs.ListStill.{when-from}
+use Rattle.cg_agree_lemmas.specs.EndCovers.{all-behind}
 
 -- ---- names above a cut
 
@@ -69,14 +70,6 @@ lt-le m n = elim (cases_Bool (nat_le n m)) [
     | inr ge ↦ (let a = leb-false n m gt in let b = ltb-false m n ge in absurd (omega arith))
   ]
 ]
-
-all-same : (f g : ActionId → Bool) → ((id : ActionId) → f id ≡ g id) → (xs : List ActionId) → list_all f xs ≡ list_all g xs
-all-same f g same [] = refl
-all-same f g same (x ∷ xs) = ap₂ (λ a b. a && b) (same x) (all-same f g same xs)
-
-all-behind : (t : ActionId → Bool) (gs fs : List ActionId) → list_all t (gs ++ fs) ≡ true → list_all t fs ≡ true
-all-behind t [] fs e = e
-all-behind t (g ∷ gs) fs e = all-behind t gs fs (and_parts (t g) (list_all t (gs ++ fs)) e).1
 
 twice-not : (b : Bool) → not (not b) ≡ b
 twice-not true = refl

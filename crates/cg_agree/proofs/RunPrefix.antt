@@ -10,18 +10,7 @@ use Rattle.cg_model.specs.Noting.{chronicle_step, chronicle_after}
 use Rattle.cg_model.specs.Played.{StandsBeside, AlwaysHolds}
 use Rattle.cg_agree.proofs.CreatorNumbered.{stands-of}
 use Rattle.cg_agree.proofs.RunForward.{IsStepOf}
-
-pub front-run : (w : World) (xs ys : List Step) → IsRunFrom w (xs ++ ys) → IsRunFrom w xs
-front-run w [] ys run = tt
-front-run w (s ∷ xs) ys run = (run.0, run.1, run.2, front-run s.world xs ys run.3)
-
-pub world-last : (w : World) (xs : List Step) (s : Step) → world_after w (through xs s) ≡ s.world
-world-last w [] s = refl
-world-last w (x ∷ xs) s = world-last x.world xs s
-
-pub chronicle-last : (c : Chronicle) (w : World) (xs : List Step) (s : Step) → chronicle_after c w (through xs s) ≡ chronicle_step (chronicle_after c w xs) (world_after w xs) s.event
-chronicle-last c w [] s = refl
-chronicle-last c w (x ∷ xs) s = chronicle-last (chronicle_step c w x.event) x.world xs s
+use Rattle.cg_model.specs.RunLaws.{front-run, world-last, chronicle-last}
 
 -- what the run says of a step
 pub record IsMade (w : World) (s : Step) : Type 0 where

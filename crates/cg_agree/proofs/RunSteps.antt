@@ -13,7 +13,8 @@ use Rattle.cg_model.specs.Telling.{Tells}
 use Rattle.cg_agree.proofs.CreatorNumbered.{stands-of}
 use Rattle.cg_agree.proofs.MadeTold.{IsMadeTold}
 use Rattle.cg_agree.proofs.TellsRun.{has-told, tells}
-use Rattle.cg_agree.proofs.RunPrefix.{world-last, chronicle-last, comes}
+use Rattle.cg_agree.proofs.RunPrefix.{comes}
+use Rattle.cg_model.specs.RunLaws.{world-last, chronicle-last}
 
 -- the world and the chronicle behind the steps of a run
 abbrev pub world_of : List Step → World

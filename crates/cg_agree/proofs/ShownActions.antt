@@ -1,6 +1,7 @@
 -- The actions of a front of the order, as the steps of a run have shown them, are those that replicas have there.
 use Rattle.std.proofs.Common.{◌≡◌, suc, List, [], ◌∷◌, take, length, Some, refl, sym, ap, ◌∙◌, subst}
-use Rattle.cg_group.specs.EachLaws.{Each, Each-weaker}
+use Rattle.cg_base.specs.Lists.{Each}
+use Rattle.cg_group.specs.EachLaws.{Each-weaker}
 use Rattle.cg_action.specs.declared.action.Action.{Action}
 use Rattle.cg_queue.specs.Queue.{names_of}
 use Rattle.cg_model.specs.Chronicle.{Chronicle}
@@ -13,10 +14,7 @@ use Rattle.cg_agree_lemmas.specs.FrontFacts.{take-Front}
 use Rattle.cg_agree_lemmas.specs.BookGrows.{IsNamed}
 use Rattle.cg_agree.proofs.OrderedActions.{IsShownAs, each-shown_as, ordered-as}
 use Rattle.cg_agree.proofs.RunSteps.{world_of, chronicle_of, StandsFor}
-
-each-booked : (c : Chronicle) (list : List Action) → AreBooked c list → Each (IsNamed c.book) list
-each-booked c [] booked = tt
-each-booked c (a ∷ list) booked = (booked.0, each-booked c list booked.1)
+use Rattle.cg_agree_lemmas.specs.BookedCores.{each-booked}
 
 names-count : (list : List Action) → length (names_of list) ≡ length list
 names-count [] = refl

@@ -25,17 +25,14 @@ use Rattle.cg_model.specs.Played.{AtRest}
 use Rattle.cg_model.specs.Small.{Small, small_step, with_installer}
 use Rattle.cg_model.specs.Smalls.{may_make}
 use Rattle.cg_agree.proofs.AttemptSteps.{Installing, AttemptStep, Same, Goes, Begun, Installed, attempt-step}
-use Rattle.cg_agree.proofs.AttemptsCame.{ins-conf}
+use Rattle.cg_agree.proofs.AttemptsCame.{ins-conf, some-is}
 use Rattle.cg_agree_lemmas.specs.AttemptsTurn.{at_conf, installing-now}
 use Rattle.cg_agree.proofs.BookedParts.{booked-left, booked-both}
 use Rattle.cg_agree_lemmas.specs.FrontFacts.{Front-trans, Front-append, Front-take}
 use Rattle.cg_agree.proofs.LevelsOpen.{first-install, place-last}
-use Rattle.cg_agree.proofs.ReachedGrows.{attempt-is, reach-still, frozen-still}
-use Rattle.cg_agree_lemmas.specs.ReachWorld.{level-kept, when-is}
+use Rattle.cg_agree.proofs.ReachedGrows.{reach-still, frozen-still}
+use Rattle.cg_agree_lemmas.specs.ReachWorld.{level-kept, when-is, attempt-is}
 use Rattle.cg_agree_lemmas.specs.SameAttempt.{same-installation}
-
-some-is : {X : Type 0} (x y : X) → Some x ≡ Some y → x ≡ y
-some-is x y e = ap (λ o. option_map_or (λ z. z) o x) e
 
 -- ---- actions of their names
 

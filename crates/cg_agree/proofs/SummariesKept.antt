@@ -44,6 +44,7 @@ use Rattle.cg_agree.proofs.LevelsKept.{start-kept, prim-kept, levels_stand-kept}
 use Rattle.cg_agree_lemmas.specs.ReachWorld.{levels-kept, level-kept}
 use Rattle.cg_agree_lemmas.specs.AttemptsGrow.{attempts-grow}
 use Rattle.cg_agree_lemmas.specs.RecordKept.{recorded-later}
+use Rattle.cg_agree.proofs.ReachedGrows.{top-grows}
 
 -- ---- what was told stays, and what is told by one that enters
 
@@ -112,14 +113,6 @@ told-by c s i may P old new conf p = at s may old new where
   at (Recovers q) may old new = same (Recovers q) tt old
   at (Copies q joiner) may old new = same (Copies q joiner) tt old
   at (Joins joiner) may old new = same (Joins joiner) tt old
-
--- levels are never fewer, and what was installed at each stays
-tops-kept : (c : Chronicle) (s : Small) → top_of c ≤ top_of (small_step c s)
-tops-kept c s =
-    let more = levels-kept c s in
-    let e = ap length more.all in
-    let both = length-append c.levels more.more in
-    omega arith
 
 installed-kept : (c : Chronicle) (s : Small) → Invariant c → (small_step c s).start ≡ c.start → (level : ℕ) → level ≤ top_of c → installation (attempt_at (small_step c s) level) ≡ installation (attempt_at c level)
 installed-kept c s i start zero le = refl
@@ -304,7 +297,7 @@ knows-kept c s i may = told-by c s i may (λ conf p t. KnowsLevels (small_step c
       let start = start-told c s i may conf p t e in
       let index = t.summary.prim.index in
       record {
-        level = (let low = is.level in let more = tops-kept c s in omega arith);
+        level = (let low = is.level in let more = top-grows c s in omega arith);
         prim = is.prim ∙ sym (prim-kept c s index i.attempt.levels_stand start is.level);
         earlier = is.earlier;
         begins = subst (λ xs. Front xs t.greens) (sym (installed-kept c s i start index is.level)) is.begins;

@@ -28,10 +28,7 @@ use Rattle.cg_agree.proofs.PastKept.{EntersNow, enters-now, entry_turn, entry_to
 use Rattle.cg_agree_lemmas.specs.SmallTalk.{conf-there}
 use Rattle.cg_agree.proofs.TalkAlone.{replica-set}
 use Rattle.cg_agree_lemmas.specs.TalkComes.{Comes, talk-comes}
-
-empty-nil : {X : Type 0} (xs : List X) → is_nil xs ≡ true → xs ≡ []
-empty-nil [] e = refl
-empty-nil (x ∷ xs) e = absurd (let clash : false ≡ true = e in cc)
+use Rattle.cg_agree_lemmas.specs.CoresSmall.{nil-is}
 
 module _ (c : Chronicle) (p : ℕ) (sound : PhaseSound c) (now : EntersNow c p) where
   abbrev g : GroupState Msg
@@ -118,7 +115,7 @@ module _ (c : Chronicle) (p : ℕ) (sound : PhaseSound c) (now : EntersNow c p) 
   comes : Comes c d p conf (entry_told c p now.replica) u.replica
   comes = record {
     confs = λ k. moved.conf k ∙ first.conf k;
-    unsaid = empty-nil (ordered_in c conf) now.may.unsaid;
+    unsaid = nil-is (ordered_in c conf) now.may.unsaid;
     member = now.may.member;
     was_out = was-out;
     phase = λ q. moved.phase q ∙ first.phase q;

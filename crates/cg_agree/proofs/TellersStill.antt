@@ -29,15 +29,16 @@ use Rattle.cg_model.specs.Small.{Small, Starts, Makes, Enters, Orders, Receives,
 use Rattle.cg_model.specs.Smalls.{may_make, is_set}
 use Rattle.cg_agree_lemmas.specs.ChronicleFacts.{greens_of-other, past-begun}
 use Rattle.cg_agree_lemmas.specs.CoresKept.{node-of, greens-turn}
-use Rattle.cg_agree.proofs.GreensFront.{commit-same, crash-same}
+use Rattle.cg_agree.proofs.GreensFront.{crash-same}
 use Rattle.cg_agree_lemmas.specs.GroupKept.{leaving-regular}
 use Rattle.cg_agree.proofs.BegunKept.{nothing-before}
 use Rattle.cg_agree_lemmas.specs.ToldKept.{IsUntold}
-use Rattle.cg_agree_lemmas.specs.OneSteps.{regular-is_up, may-join}
+use Rattle.cg_agree_lemmas.specs.OneSteps.{may-join}
 use Rattle.cg_agree_lemmas.specs.HandsNow.{hands-now, hands-regular}
-use Rattle.cg_agree_lemmas.specs.HandsKept.{regular-phase}
+use Rattle.cg_agree_lemmas.specs.HandsKept.{regular-phase, regular-up}
 use Rattle.cg_agree_lemmas.specs.EntryGreens.{nothing-new}
 use Rattle.cg_agree_lemmas.specs.GreenMembers.{creates-same}
+use Rattle.cg_agree_lemmas.specs.TurnAlong.{commit-same}
 
 -- ---- a turn in which nothing becomes green
 
@@ -166,7 +167,7 @@ module _ (c : Chronicle) (i : Invariant c) (conf p : ℕ) (t : Told) (told : tol
     at false = refl
 
   up-of : (q : ℕ) → is_regular c.world.group q ≡ true → is_some (replica_of c.world q) ≡ true
-  up-of q regular = i.net.phase_sound.up q ∙ regular-is_up c.world.group q regular
+  up-of q regular = i.net.phase_sound.up q ∙ regular-up c.world.group q regular
 
   parted-none : (set : List ℕ) (own : ℕ) (places : List ℕ) → ordered_in c conf ≡ [] → is_regular c.world.group p ≡ true → (r : Replica) → newly_green r (take_parting c.world.group p set places (begin r)).replica ≡ []
   unfolding after_delivery

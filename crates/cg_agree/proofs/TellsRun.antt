@@ -12,8 +12,9 @@ use Rattle.cg_agree_lemmas.specs.OrderTold.{order_told}
 use Rattle.cg_agree.proofs.MadeBookKept.{nothing-made}
 use Rattle.cg_agree.proofs.RunForward.{IsStepOf, of-run}
 use Rattle.cg_agree.proofs.LinesShown.{AreLinesTold, lines-on, position-shown, white-shown}
-use Rattle.cg_agree.proofs.MadeTold.{IsMadeTold, made-on, made-told, as-made, each-contains}
+use Rattle.cg_agree.proofs.MadeTold.{IsMadeTold, made-on, made-told, as-made}
 use Rattle.cg_agree.proofs.StartTold.{IsStartTold, start-on}
+use Rattle.cg_base.specs.ElementLaws.{each-contains}
 
 -- what is kept by each step
 pub record HasTold (earlier : List Step) (c : Chronicle) (w : World) : Type 0 where

@@ -31,7 +31,6 @@ use Rattle.cg_agree_lemmas.specs.CoresKept.{held-known}
 use Rattle.cg_agree.proofs.CoversStay.{ReachShrinks, start-covers, covers-still}
 use Rattle.cg_agree.proofs.EndShown.{ToldCovers}
 use Rattle.cg_agree_lemmas.specs.HandSays.{find-holds}
-use Rattle.cg_agree.proofs.LevelsOpen.{when-from}
 use Rattle.cg_agree_lemmas.specs.LivesRest.{own-rest}
 use Rattle.cg_agree.proofs.NewestLevel.{newest-level}
 use Rattle.cg_agree.proofs.PastKept.{EntersNow, enters-now, entry_turn, entry_told, told_in-enters}
@@ -39,6 +38,7 @@ use Rattle.cg_agree_lemmas.specs.ReachWorld.{when-is, levels-kept, level-kept}
 use Rattle.cg_agree_lemmas.specs.ToldKept.{IsUntold, told-same, told_in-same}
 use Rattle.cg_agree.proofs.ToldLine.{behind-of}
 use Rattle.cg_agree_lemmas.specs.TurnParts.{record_left, valid_left, newest-come}
+use Rattle.cg_agree_lemmas.specs.ListStill.{when-from}
 
 -- evidence that a holder of this name has, covers with these greens
 abbrev pub CoversWhere : Chronicle → ℕ → ℕ → Bool → Option Vulnerable → List Action → List ActionId → Type 0

@@ -1,12 +1,12 @@
 -- What a turn does meets nothing, also where the turn is struck: its steps may be made as the first of the event.
 use Rattle.std.proofs.Common.{◌≡◌, ℕ, suc, ◌+◌, ◌-◌, true, List, [], ◌∷◌, ◌++◌, None, flat_map, length, replicate, refl, sym, subst, append-nil, ⊎_elim}
-use Rattle.cg_base.specs.Lists.{above_up_to}
+use Rattle.cg_base.specs.Lists.{above_up_to, Each}
 use Rattle.cg_base.specs.Sets.{has}
 use Rattle.cg_action.specs.declared.action.Kind.TheVariants.{Update, Join as JoinKind, Leave as LeaveKind}
 use Rattle.cg_group.specs.declared.delivery.Delivery.TheVariants.{Regular as RegularIn}
 use Rattle.cg_group.specs.State.{delivered_to, home}
 use Rattle.cg_group.specs.Events.{furthest, handed_in_split, deliveries_at, deliver}
-use Rattle.cg_group.specs.EachLaws.{Each, Each-append, Each-weaker, Each-has}
+use Rattle.cg_group.specs.EachLaws.{Each-append, Each-weaker, Each-has}
 use Rattle.cg_model.specs.ReplicaStep.{Input, Deliveries, Asks as AsksOf}
 use Rattle.cg_schedule.specs.declared.event.Event.{Event}
 use Rattle.cg_schedule.specs.declared.event.Event.TheVariants.{Start, Split, Merge, Request, Weak, Dirty, Order, Recover, Show, ShowOrder, Gather, End, Receive, Deliver, Rounds, Stop, Fail, Join, Leave, Transfer}

@@ -1,7 +1,8 @@
 -- What a run has shown of a replica as it was up last: its greens begin the order, and no server's line among these is below its white count.
 use Rattle.std.proofs.Common.{◌⊎◌, ◌≡◌, ℕ, ◌<◌, ◌≤◌, true, false, List, [], ◌∷◌, map, length, Option, Some, None, IfSome, is_some, refl, sym, ap, ◌∙◌, subst, inl, inr, arith, option_and_then}
 use Rattle.std.specs.Option.{option_map_or}
-use Rattle.cg_group.specs.EachLaws.{Each, Each-append, Each-weaker}
+use Rattle.cg_base.specs.Lists.{Each}
+use Rattle.cg_group.specs.EachLaws.{Each-append, Each-weaker}
 use Rattle.cg_base.specs.declared.weighted.Weighted.{Weighted}
 use Rattle.cg_action.specs.declared.action.Action.{Action}
 use Rattle.cg_members.specs.Listed.{line_of}
@@ -31,7 +32,6 @@ use Rattle.cg_agree_lemmas.specs.BookStays.{event-book}
 use Rattle.cg_agree.proofs.CountsGrow.{count_at, CountGrows, event-counts}
 use Rattle.cg_agree_lemmas.specs.LinesGreens.{ever-joined}
 use Rattle.cg_agree.proofs.LinesShown.{AreLinesTold, position-shown, white-shown}
-use Rattle.cg_agree.proofs.MadeTold.{made-last}
 use Rattle.cg_agree.proofs.OrderReached.{in-order}
 use Rattle.cg_agree_lemmas.specs.OrderTold.{step_order}
 use Rattle.cg_agree.proofs.PositionsGrow.{IsPlaced, down-still, step-moves, placed-on}
@@ -39,6 +39,7 @@ use Rattle.cg_agree.proofs.PrimaryOne.{hosted-not}
 use Rattle.cg_agree.proofs.PrimStays.{event-stays}
 use Rattle.cg_agree.proofs.RunForward.{IsStepOf, of-run}
 use Rattle.cg_agree.proofs.TellsRun.{nothing-told}
+use Rattle.cg_model.specs.MadeLaws.{made-last}
 
 -- what was shown of a replica as it was up last
 pub record IsKept (earlier : List Step) (c : Chronicle) (w : World) (p : ℕ) : Type 0 where

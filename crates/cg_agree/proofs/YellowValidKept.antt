@@ -29,13 +29,13 @@ use Rattle.cg_agree.proofs.BegunKept.{nothing-before}
 use Rattle.cg_agree.proofs.BuiltThere.{built}
 use Rattle.cg_agree_lemmas.specs.CoresKept.{node-of}
 use Rattle.cg_agree_lemmas.specs.HandsNow.{HandsNow, hands-now, new, hand-turned, running-now}
-use Rattle.cg_agree.proofs.LevelsOpen.{when-from}
 use Rattle.cg_agree_lemmas.specs.PlanEnd.{AtPlanEnd, plan-end, is_behind}
 use Rattle.cg_agree_lemmas.specs.ReachWorld.{when-is}
 use Rattle.cg_agree_lemmas.specs.RecordKept.{same-replica, enters-between}
 use Rattle.cg_agree.proofs.TalkAlone.{replica-set, recovered-state}
 use Rattle.cg_agree_lemmas.specs.TurnKinds.{IsQuiet, HasInstalled, Turned, Quiet, Installs, Decides, Attempts}
 use Rattle.cg_agree_lemmas.specs.TurnParts.{HasParted, never-both, settle-quiet, request-quiet, parting-turned, newest-come}
+use Rattle.cg_agree_lemmas.specs.ListStill.{when-from}
 
 abbrev HasValid : Replica → Type 0
 HasValid r = When (is_attempting r.state) (r.held.yellow_valid ≡ false → r.held.queue.yellow ≡ [])

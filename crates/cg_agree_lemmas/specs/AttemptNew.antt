@@ -1,6 +1,6 @@
 -- A turn that ends within an attempt began within it, with the same reds; or the attempt is new, and so is its record.
 use Rattle.std.proofs.Common.{◌⊎◌, ◌≡◌, ℕ, suc, Bool, true, false, cond, List, [], ◌∷◌, ◌++◌, fold, Option, Some, None, refl, sym, ap, ◌∙◌, subst, inl, inr, eq-eqb}
-use Rattle.cg_group.specs.EachLaws.{Each}
+use Rattle.cg_base.specs.Lists.{Each}
 use Rattle.cg_base.specs.Sets.{has, is_within, with_member}
 use Rattle.cg_action.specs.declared.action.Kind.{Kind}
 use Rattle.cg_records.specs.declared.vulnerable.Vulnerable.{Vulnerable}

@@ -2,7 +2,7 @@
 use Rattle.std.proofs.Common.{◌≡◌, ℕ, suc, max, Bool, true, false, cond, ◌||◌, List, [], ◌∷◌, ◌++◌, fold, find, append-nil, append_assoc, Option, Some, None, refl, sym, ap, ◌∙◌, subst, arith, inl, inr}
 use Rattle.std.specs.Prelude.{◌==◌}
 use Rattle.std.proofs.lemmas.Bool.{cases_Bool, cond-true, cond-false, and_parts, and_from, eq-eqb, false_from_ne_true}
-use Rattle.cg_group.specs.EachLaws.{Each}
+use Rattle.cg_base.specs.Lists.{Each}
 use Rattle.cg_base.specs.declared.action_id.ActionId.{ActionId}
 use Rattle.cg_base.specs.Cuts.{index_in, raise}
 use Rattle.cg_base.specs.Ids.{same_id, names}
@@ -19,6 +19,7 @@ use Rattle.cg_disk_records.specs.RunLaws.{cut_behind-append, run_on-append, run_
 use Rattle.cg_disk_records.specs.RunMarkLaws.{names-new, run-head}
 use Rattle.cg_disk_records.specs.HeldLaws.{names-behind, are_of, created-behind}
 use Rattle.cg_agree_lemmas.specs.DiskAhead.{OwnRuns}
+use Rattle.cg_disk_records.specs.HoldsValueLaws.{mine-behind}
 
 -- the action of a name
 abbrev pub named_in : List Action → ActionId → Option Action
@@ -95,13 +96,6 @@ pub record IsCounted (book : List Action) (old : Held) (t : Turn) : Type 0 where
   pub others : (q : ℕ) → (q ≡ old.id → ⊥) → index_in (cut_of (book ++ t.made)) q ≡ index_in (cut_of book) q
   pub own : OwnRuns t.replica.held
 
--- one action more
-pub all-own : (me : ℕ) (own : List Action) (a : Action) → are_of me own ≡ true → a.id.creator ≡ me → are_of me (own ++ a ∷ []) ≡ true
-all-own me [] a mine of_me = and_from (a.id.creator == me) true (eq-eqb a.id.creator me of_me) refl
-all-own me (b ∷ own) a mine of_me =
-    let parts = and_parts (b.id.creator == me) (are_of me own) mine in
-    and_from (b.id.creator == me) (are_of me (own ++ a ∷ [])) parts.0 (all-own me own a parts.1 of_me)
-
 cut-next : (xs : List Action) (a : Action) → cut_of (xs ++ a ∷ []) ≡ raise (cut_of xs) a.id
 cut-next xs a = ap (cut_behind []) (names-behind xs a) ∙ cut_behind-append [] (names_of xs) (a.id ∷ [])
 
@@ -122,7 +116,7 @@ create-counted book old t kind is =
     let behind : index_in (cut_behind h.queue.red_cut (names_of h.own)) h.id ≡ created h = created-behind h.queue.red_cut h.id h.own is.own.rising is.own.run is.own.mine in
     let runs : run_on h.queue.red_cut (names_of (h.own ++ a ∷ [])) ≡ true =
     ap (run_on h.queue.red_cut) (names-behind h.own a) ∙ run_on-next h.queue.red_cut (names_of h.own) a.id is.own.run (ap suc (sym behind)) in
-    let mine = all-own h.id h.own a is.own.mine refl in
+    let mine = mine-behind h.id h.own a is.own.mine refl in
     let new_behind : index_in (cut_behind h.queue.red_cut (names_of (h.own ++ a ∷ []))) h.id ≡ max (index_in h.queue.red_cut h.id) (last_index (h.own ++ a ∷ [])) =
     created-behind h.queue.red_cut h.id (h.own ++ a ∷ []) is.own.rising runs mine in
     let raised : index_in (raise (cut_behind h.queue.red_cut (names_of h.own)) a.id) h.id ≡ max (index_in (cut_behind h.queue.red_cut (names_of h.own)) h.id) (suc (created h)) =

@@ -19,7 +19,7 @@ use Rattle.cg_agree_lemmas.specs.ChronicleFacts.{node_of-set, greens_of-own, gre
 use Rattle.cg_agree_lemmas.specs.Keyed.{found-changed}
 use Rattle.cg_agree_lemmas.specs.HandSays.{find-holds}
 use Rattle.cg_agree_lemmas.specs.HeldCommit.{recovered-id}
-use Rattle.cg_agree_lemmas.specs.OneselfWorld.{HavePasts, rehosted}
+use Rattle.cg_agree_lemmas.specs.OneselfWorld.{HavePasts, rehosted, stood-same}
 use Rattle.cg_agree_lemmas.specs.OneselfCopies.{found-without}
 
 -- it stands behind what a commit, a recovery and a joining make of what is held
@@ -80,13 +80,6 @@ TurnKeeps c p part Q =
     (r : Replica) (disk : Disk) → node_of c.world p ≡ Some (record { id = p; life = Up r disk }) →
     Q (part (begin r)).replica.held (greens_of c p ++ newly_green r (part (begin r)).replica)
 
-pub stood-turn : (c : Chronicle) (p : ℕ) (r : Replica) (disk : Disk) (t : Turn) (q : ℕ) → stood_of (after_turn c p r disk t) q ≡ stood_of c q
-stood-turn c p r disk t q = ap stood-in (past_of-turn c p r disk t q) ∙ either (q == p) (past_of c q) where
-  either : (b : Bool) (o : Option Past) → stood-in (cond b (option_map (with_greens (newly_green r t.replica)) o) o) ≡ stood-in o
-  either true None = refl
-  either true (Some x) = refl
-  either false o = refl
-
 -- the greens of the replica whose turn it is
 pub greens-turn : (c : Chronicle) (p : ℕ) (r : Replica) (disk : Disk) (t : Turn) → HavePasts c → node_of c.world p ≡ Some (record { id = p; life = Up r disk }) →
     greens_of (after_turn c p r disk t) p ≡ greens_of c p ++ newly_green r t.replica
@@ -104,9 +97,9 @@ turning-cores Q c p part pasts keeps f = at (node_of c.world p) refl where
       (record {
         node = λ q. node_of-set c.world p (Up t.replica disk) q;
         greens = greens-turn c p r disk t pasts node;
-        disk = stood-turn c p r disk t p;
+        disk = stood-same c p r disk t p;
         other_greens = λ q apart. greens_of-other c p r disk t q (λ e. apart (sym e));
-        other_disks = λ q apart. stood-turn c p r disk t q;
+        other_disks = λ q apart. stood-same c p r disk t q;
       }) (keeps r disk node) (disk-known Q c p (Up r disk) node f) f.snapshot f
 
   life : (s : Node) (life : NodeState) → s.life ≡ life → node_of c.world p ≡ Some s → OfCores (turning_as c p part life) Q

@@ -35,7 +35,7 @@ module _ {X : Type 0} (key : X → ℕ) where
     | inr other ↦ rw (ne_eqb (key x) j other, ne_eqb (key x) j other) (found-gone j xs)
   ]
 
-none-of : {X : Type 0} (o : Option X) → is_some o ≡ false → o ≡ None
+pub none-of : {X : Type 0} (o : Option X) → is_some o ≡ false → o ≡ None
 none-of None e = refl
 none-of (Some x) e = absurd (let clash : true ≡ false = e in cc)
 
@@ -158,7 +158,7 @@ StepKeeps c (Asks p kind) Q = TurnKeeps c p (take_request kind) Q
 StepKeeps c (Settles p) Q = TurnKeeps c p settle Q
 StepKeeps c _ Q = Unit {0}
 
-nil-is : {X : Type 0} (xs : List X) → is_nil xs ≡ true → xs ≡ []
+pub nil-is : {X : Type 0} (xs : List X) → is_nil xs ≡ true → xs ≡ []
 nil-is [] e = refl
 nil-is (x ∷ xs) e = absurd (let clash : false ≡ true = e in cc)
 

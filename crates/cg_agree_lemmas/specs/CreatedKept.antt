@@ -25,6 +25,7 @@ use Rattle.cg_agree_lemmas.specs.HeldMarks.{IsOneself, rising-green, rising-red}
 use Rattle.cg_disk_records.specs.HeldLaws.{are_of, are-after, own-after, created-behind}
 use Rattle.cg_agree_lemmas.specs.DiskAhead.{OwnRuns, LeftOwn, left-own, made-by}
 use Rattle.cg_agree_lemmas.specs.TurnRows.{IsRule}
+use Rattle.cg_disk_records.specs.HoldsMarkLaws.{own-same}
 
 -- so much was created as before, and nothing is made
 pub record HasCreated (old h : Held) : Type 0 where
@@ -72,18 +73,6 @@ known-created old h a next made is =
       below = λ p. (let up = index-rises h.queue.red_cut a.id is.own.rising p in let low = is.below p in omega arith);
     }
 
--- a name that is known already isn't waited for
-after-known : (red : List ActionId) (own : List Action) (id : ActionId) → run_on red (names_of own) ≡ true → id.index ≤ index_in red id.creator → after_first own id ≡ own
-after-known red [] id run known = refl
-after-known red (b ∷ own) id run known = elim (cases_Bool (same_id b.id id)) [
-  | inl same ↦
-      let one = same_id-is b.id id same in
-      let first : b.id.index ≡ suc (index_in red b.id.creator) = run-head red b.id (names_of own) run in
-      let here : id.index ≡ suc (index_in red id.creator) = subst (λ (x : ActionId). x.index ≡ suc (index_in red x.creator)) one first in
-      absurd (omega arith)
-  | inr apart ↦ rw apart refl
-]
-
 green-created : (old h : Held) (a : Action) → a.id.index ≡ suc (index_in h.queue.green_cut a.id.creator) → is_unmade h a ≡ false → HasCreated old h → HasCreated old (with_green h a)
 green-created old h a next made is =
     let green = index_in h.queue.green_cut a.id.creator in
@@ -104,7 +93,7 @@ green-created old h a next made is =
         | inr apart ↦ elim apart [
           | inl known ↦
               let le : a.id.index ≤ index_in h.queue.red_cut a.id.creator = omega arith in
-              ap₂ (λ cut own. max (index_in cut h.id) (last_index own)) (raise-below h.queue.red_cut a.id is.own.rising le) (after-known h.queue.red_cut h.own a.id is.own.run le)
+              ap₂ (λ cut own. max (index_in cut h.id) (last_index own)) (raise-below h.queue.red_cut a.id is.own.rising le) (own-same h.queue.red_cut h.own a.id is.own.run le)
           | inr past ↦ absurd (let low = is.below a.id.creator in omega arith)
         ]
       ]

@@ -95,7 +95,7 @@ none-common heard (id ∷ fs) e =
       no-and true = refl
       no-and false = refl
 
-all-behind : (t : ActionId → Bool) (gs fs : List ActionId) → list_all t (gs ++ fs) ≡ true → list_all t fs ≡ true
+pub all-behind : (t : ActionId → Bool) (gs fs : List ActionId) → list_all t (gs ++ fs) ≡ true → list_all t fs ≡ true
 all-behind t [] fs e = e
 all-behind t (g ∷ gs) fs e = all-behind t gs fs (and_parts (t g) (list_all t (gs ++ fs)) e).1
 

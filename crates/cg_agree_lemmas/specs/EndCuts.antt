@@ -94,7 +94,7 @@ at-most : (heard : List Summary) (best : Summary) → most_updated heard ≡ Som
 unfolding is_green_at_most
 at-most heard best e id = ap (λ o. option_map_or (λ s. nat_le id.index (index_in s.green_cut id.creator)) o false) e
 
-all-same : (f g : ActionId → Bool) → ((id : ActionId) → f id ≡ g id) → (xs : List ActionId) → list_all f xs ≡ list_all g xs
+pub all-same : (f g : ActionId → Bool) → ((id : ActionId) → f id ≡ g id) → (xs : List ActionId) → list_all f xs ≡ list_all g xs
 all-same f g same [] = refl
 all-same f g same (x ∷ xs) = ap₂ (λ a b. a && b) (same x) (all-same f g same xs)
 

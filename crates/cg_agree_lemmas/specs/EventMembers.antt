@@ -11,19 +11,20 @@ use Rattle.cg_group.specs.declared.reason.Reason.TheVariants.{NotUp, NotRegular,
 use Rattle.cg_group.specs.State.{GroupState, configuration, is_up, is_regular, regular_in, phase_of, delivered_to}
 use Rattle.cg_group.specs.Ready.{ready_in}
 use Rattle.cg_group.specs.Refusals.{empty_set, any_of, not_up, not_regular, not_one_configuration, still_regular, not_together, split_refusal, merge_refusal}
-use Rattle.cg_group.specs.EachLaws.{Each, Each-has, Each-weaker}
+use Rattle.cg_base.specs.Lists.{Each}
+use Rattle.cg_group.specs.EachLaws.{Each-has, Each-weaker}
 use Rattle.cg_client.specs.Replica.{Replica}
 use Rattle.cg_schedule.specs.declared.event.Event.TheVariants.{Split, Merge}
 use Rattle.cg_model.specs.World.{Node, World, running, replica_of, is_left, is_left_state, left_replicas}
 use Rattle.cg_model.specs.Admission.{unknown, has_left, first_refusal}
 use Rattle.cg_model.specs.Smalls.{is_between}
 use Rattle.cg_agree_lemmas.specs.UnorderedKept.{first-none, refused-not}
-use Rattle.cg_agree_lemmas.specs.MadeAlone.{not-refused}
 use Rattle.cg_agree_lemmas.specs.MadeDeliver.{stands-regular}
 use Rattle.cg_agree_lemmas.specs.MadeSplit.{IsLeaving, greatest-below}
 use Rattle.cg_agree_lemmas.specs.MadeMerge.{IsComing}
 use Rattle.cg_agree_lemmas.specs.SoundWorlds.{IsSound}
 use Rattle.cg_agree_lemmas.specs.EventTurns.{is-up}
+use Rattle.cg_group.specs.RefusalLaws.{refuse_none}
 
 -- ---- what isn't refused
 
@@ -122,10 +123,10 @@ module _ (w : World) (sound : IsSound w) where
         members [] a b d e = tt
         members (p ∷ list) a b d e =
             let here = is-up w p (up-is p a.0) in
-            let out = not-refused (is_regular g p) _ d.0 in
+            let out = refuse_none (is_regular g p) _ d.0 in
             let runs : replica_of w p ≡ Some here.replica = ap (λ (o : Option Node). option_and_then (λ s. running s.life) o) here.node in
             let state = subst (λ (o : Option Replica). IfSome o (λ r. is_regular g p ≡ false → is_left_state r.state ≡ false → is_between r.state ≡ true)) runs (sound.between p) in
-            let stays : is_left_state here.replica.state ≡ false = sym (ap (λ (o : Option Replica). option_map_or (λ r. is_left_state r.state) o false) runs) ∙ not-refused (is_left w p) _ b.0 in (
+            let stays : is_left_state here.replica.state ≡ false = sym (ap (λ (o : Option Replica). option_map_or (λ r. is_left_state r.state) o false) runs) ∙ refuse_none (is_left w p) _ b.0 in (
               record {
                 here = here;
                 member = e.0;

@@ -12,7 +12,7 @@ use Rattle.cg_action.specs.declared.action.Action.{Action}
 use Rattle.cg_queue.specs.Queue.{names_of}
 use Rattle.cg_wire.specs.declared.message.Msg.{Msg}
 use Rattle.cg_group.specs.declared.delivery.Handed.{Handed}
-use Rattle.cg_group.specs.EachLaws.{Each}
+use Rattle.cg_base.specs.Lists.{Each}
 use Rattle.cg_report.specs.declared.entry.Made.{Made}
 use Rattle.cg_report.specs.declared.entry.Reply.{Reply}
 use Rattle.cg_client.specs.Replica.{Held, Replica}
@@ -77,7 +77,7 @@ made-named : (made : List Action) → made_ids (map made_of_action made) ≡ nam
 made-named [] = refl
 made-named (a ∷ made) = ap (λ ids. a.id ∷ ids) (made-named made)
 
-names-both : (xs ys : List ActionId) (id : ActionId) → names (xs ++ ys) id ≡ (names xs id || names ys id)
+pub names-both : (xs ys : List ActionId) (id : ActionId) → names (xs ++ ys) id ≡ (names xs id || names ys id)
 names-both [] ys id = refl
 names-both (x ∷ xs) ys id = ap (λ b. same_id id x || b) (names-both xs ys id) ∙ assoc (same_id id x) (names xs id) (names ys id) where
   assoc : (a b c : Bool) → (a || (b || c)) ≡ ((a || b) || c)

@@ -12,7 +12,6 @@ use Rattle.cg_action.specs.declared.action.Kind.{Kind}
 use Rattle.cg_action.specs.declared.command.Cmd.{Cmd}
 use Rattle.cg_action.specs.declared.query.Query.{Query}
 use Rattle.cg_agree_lemmas.specs.GroupChanges.{DoRise}
-use Rattle.cg_agree_lemmas.specs.MadeAlone.{not-refused}
 use Rattle.cg_agree_lemmas.specs.MadeDeliver.{may-opens, stands-regular}
 use Rattle.cg_agree_lemmas.specs.NodeFacts.{node-id}
 use Rattle.cg_agree_lemmas.specs.SmallWorlds.{small_in}
@@ -26,16 +25,17 @@ use Rattle.cg_model.specs.Show.{StepInProgress}
 use Rattle.cg_model.specs.Smalls.{ending, leaving_steps, smalls_in, turns_as}
 use Rattle.cg_model.specs.Step.{quietly}
 use Rattle.cg_model.specs.Turns.{stands, taken, taken_by, turns_of}
-use Rattle.cg_base.specs.Lists.{above_up_to}
+use Rattle.cg_base.specs.Lists.{above_up_to, Each}
 use Rattle.cg_client.specs.Replica.{Replica}
 use Rattle.cg_client.specs.Turn.{begin}
-use Rattle.cg_group.specs.EachLaws.{Each, Each-weaker}
+use Rattle.cg_group.specs.EachLaws.{Each-weaker}
 use Rattle.cg_group.specs.Events.{become_regular, become_transitional, deliver, deliveries_at, handed_in_split, send_all}
 use Rattle.cg_group.specs.Ready.{ready}
 use Rattle.cg_group.specs.Refusals.{deliver_refusal, not_ready, not_regular, not_up}
 use Rattle.cg_group.specs.State.{delivered_to, home, is_regular}
 use Rattle.cg_group.specs.declared.delivery.Delivery.TheVariants.{Regular as RegularIn}
 use Rattle.cg_disk_records.specs.Crash.{Disk}
+use Rattle.cg_group.specs.RefusalLaws.{refuse_none}
 
 module _ (w : World) (rising : IsRising 0 (map (λ s. s.id) w.nodes)) (rises : DoRise w.group) where
   pub split-reached : (set : List ℕ) → IsRising 0 set → Each (IsLeaving w set) set →
@@ -112,7 +112,7 @@ module _ (w : World) (rising : IsRising 0 (map (λ s. s.id) w.nodes)) (rises : D
       let first = first-none (unknown w q) (deliver_refusal g q count ∷ []) (ap is_none admitted) in
       let up = first-none (not_up g q) (not_regular g q ∷ not_ready g q count ∷ []) (ap is_none (first-none (deliver_refusal g q count) [] first.1).0) in
       let regular = first-none (not_regular g q) (not_ready g q count ∷ []) up.1 in
-      let enough = not-refused (nat_lt (ready g q) count) _ (first-none (not_ready g q count) [] regular.1).0 in
+      let enough = refuse_none (nat_lt (ready g q) count) _ (first-none (not_ready g q count) [] regular.1).0 in
       let stands_there = stands-regular g q (refused-not (is_regular g q) _ regular.0) in
       let steps : flat_map (ending block) (taken w q (Deliveries list) ++ []) ≡ flat_map (ending block) (taken w q (Deliveries list)) = ap (flat_map (ending block)) (append-nil (taken w q (Deliveries list))) in
       subst (λ (smalls : List Small). NodeReached w smalls (Deliveries list) q (node_of w q)) (sym steps)

@@ -13,6 +13,7 @@ use Rattle.cg_members.specs.declared.server.Server.{Server}
 use Rattle.cg_members.specs.Members.{Members}
 use Rattle.cg_members.specs.Servers.{is_among, is_server, was_ever, first_line, with_server, without_server, with_line, starting, with_joiner, departed, after_kind, after_green, after_greens, members_of}
 use Rattle.cg_model.specs.Fronts.{Front}
+use Rattle.cg_members.specs.MemberLaws.{is_among-with_line}
 
 among-with : (servers : List Server) (new : Server) (q : ℕ) → is_among servers q ≡ true → is_among (with_server servers new) q ≡ true
 among-with [] new q here = absurd (let clash : false ≡ true = here in cc)
@@ -36,13 +37,6 @@ among-without (s ∷ servers) p q other here =
       gone : (b : Bool) → not b ≡ false → b ≡ true
       gone true e = refl
       gone false e = absurd (let clash : true ≡ false = e in cc)
-
-pub among-raised : (servers : List Server) (p line q : ℕ) → is_among (map (with_line p line) servers) q ≡ is_among servers q
-among-raised [] p line q = refl
-among-raised (s ∷ servers) p line q =
-    ap₂ ◌||◌ (cond_both (s.id == p) (raised s) s (λ x. (x.id == q) ≡ (s.id == q)) (λ y. refl) (λ n. refl)) (among-raised servers p line q) where
-      raised : Server → Server
-      raised s = record s { line = max s.line line }
 
 ever-joined : (m : Members) (p weight place q : ℕ) → was_ever m q ≡ true → was_ever (with_joiner m p weight place) q ≡ true
 ever-joined m p weight place q was =
@@ -70,7 +64,7 @@ ever-kind m place q (Leave server) was = ever-departed m server q was
 pub ever-green : (m : Members) (place q : ℕ) (a : Action) → was_ever m q ≡ true → was_ever (after_green m place a) q ≡ true
 ever-green m place q a was =
     let behind = after_kind m place a.kind in
-    ap (λ b. b || has behind.left q) (among-raised behind.servers a.id.creator (min a.green_line place) q) ∙ ever-kind m place q a.kind was
+    ap (λ b. b || has behind.left q) (is_among-with_line behind.servers a.id.creator (min a.green_line place) q) ∙ ever-kind m place q a.kind was
 
 ever-greens : (greens : List Action) (m : Members) (place q : ℕ) → was_ever m q ≡ true → was_ever (after_greens m place greens) q ≡ true
 ever-greens [] m place q was = was

@@ -3,7 +3,7 @@ use Rattle.std.proofs.Common.{◌≡◌, ℕ, zero, suc, pred, ◌+◌, ◌-◌,
 use Rattle.std.specs.Prelude.{◌==◌, ◌&&◌}
 use Rattle.std.specs.Option.{option_map_or}
 use Rattle.std.proofs.lemmas.Bool.{cases_Bool, cond-true, cond-false, cond_both, not-true, or_cases}
-use Rattle.cg_base.specs.Lists.{at_place, count_up, above_up_to, first_some}
+use Rattle.cg_base.specs.Lists.{at_place, count_up, above_up_to, first_some, Each}
 use Rattle.cg_base.specs.Sets.{has}
 use Rattle.cg_wire.specs.declared.message.Msg.{Msg}
 use Rattle.cg_group.specs.declared.phase.Phase.{Phase}
@@ -13,7 +13,7 @@ use Rattle.cg_group.specs.declared.reason.Reason.TheVariants.{NotUp, NotRegular,
 use Rattle.cg_group.specs.State.{Sent, Standing, Configuration, GroupState, no_configuration, standing_of, configuration, phase_of, regular_in, home, unordered_of, has_received, set_standing, set_configuration, changed_at}
 use Rattle.cg_group.specs.Events.{order, order_from, order_all, with_message, receive, with_receipt, regulars}
 use Rattle.cg_group.specs.Refusals.{refuse, not_up, not_regular, no_such_place, already_received, earlier_missing, is_missing, sender_at, receive_refusal}
-use Rattle.cg_group.specs.EachLaws.{Each, Each-above, Each-weaker}
+use Rattle.cg_group.specs.EachLaws.{Each-above, Each-weaker}
 use Rattle.cg_group.specs.LookupLaws.{at_place-changed}
 use Rattle.cg_group.specs.PlaceLaws.{at_place-within}
 use Rattle.cg_model.specs.World.{World}
@@ -93,7 +93,7 @@ fit-changed : (list : List (Configuration Msg)) (n : ℕ) (c : Configuration Msg
 fit-changed [] n c is each = tt
 fit-changed (x ∷ list) n c is each = cond_both (n == 1) (c ∷ list) (x ∷ changed_at (λ old. c) list (pred n)) (Each IsFit) (λ y. (is, each.1)) (λ f. (each.0, fit-changed list (pred n) c is each.1))
 
-rising-next : (rs : List (List ℕ)) (p : ℕ) → AreRising rs → AreRising (rs ++ (p ∷ []) ∷ [])
+pub rising-next : (rs : List (List ℕ)) (p : ℕ) → AreRising rs → AreRising (rs ++ (p ∷ []) ∷ [])
 rising-next [] p each = ((omega arith, tt), tt)
 rising-next (set ∷ rs) p each = (each.0, rising-next rs p each.1)
 

@@ -39,7 +39,7 @@ fewer : (t : ℕ → Bool) (xs : List ℕ) → length (filter t xs) ≤ length x
 fewer t [] = omega arith
 fewer t (x ∷ xs) = let rest = fewer t xs in cond_both (t x) (x ∷ filter t xs) (filter t xs) (λ zs. length zs ≤ suc (length xs)) (λ y. omega arith) (λ n. omega arith)
 
-length-mapped : {X Y : Type 0} (f : X → Y) (xs : List X) → length (map f xs) ≡ length xs
+pub length-mapped : {X Y : Type 0} (f : X → Y) (xs : List X) → length (map f xs) ≡ length xs
 length-mapped f [] = refl
 length-mapped f (x ∷ xs) = ap suc (length-mapped f xs)
 

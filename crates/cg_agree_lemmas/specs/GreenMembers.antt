@@ -140,7 +140,7 @@ asks-follow r kind = at r.state where
   at (NonPrim false) = kept
 
 -- what becomes green in a turn is what follows
-drop-front : (xs ys : List Action) → drop (length xs) (xs ++ ys) ≡ ys
+pub drop-front : (xs ys : List Action) → drop (length xs) (xs ++ ys) ≡ ys
 drop-front [] ys = refl
 drop-front (x ∷ xs) ys = drop-front xs ys
 

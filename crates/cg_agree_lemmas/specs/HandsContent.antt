@@ -5,7 +5,7 @@ use Rattle.std.specs.Option.{option_map_or, option_to_list}
 use Rattle.std.proofs.lemmas.Bool.{cases_Bool, cases_lt, cond-true, cond-false, cond_both}
 use Rattle.cg_base.specs.declared.weighted.Weighted.{Weighted}
 use Rattle.cg_base.specs.Cuts.{index_in}
-use Rattle.cg_base.specs.Lists.{at_place, above_up_to}
+use Rattle.cg_base.specs.Lists.{at_place, above_up_to, Each}
 use Rattle.cg_base.specs.Sets.{has}
 use Rattle.cg_action.specs.declared.action.Action.{Action}
 use Rattle.cg_queue.specs.Queue.{action_of}
@@ -21,7 +21,7 @@ use Rattle.cg_plan.specs.Items.{items_of, red_item}
 use Rattle.cg_plan.specs.Plan.{green_part, red_part, reds_of, creators, plan_of, least_greens, least_reds, farthest}
 use Rattle.cg_plan.specs.Progress.{is_done, turn_of}
 use Rattle.cg_wire.specs.declared.message.Msg.TheVariants.{GreenItem, RedItem, Cpc}
-use Rattle.cg_group.specs.EachLaws.{Each, Each-above, Each-append}
+use Rattle.cg_group.specs.EachLaws.{Each-above, Each-append}
 use Rattle.cg_group.specs.PlaceLaws.{at_place-append}
 use Rattle.cg_client.specs.Replica.{Held, ExchangeActions}
 use Rattle.cg_client.specs.Turn.{Turn, go_to}

@@ -1,7 +1,7 @@
 -- What each event shows beside lines: an answer, a replica's greens and database, the order, or how much of a snapshot was taken.
 use Rattle.std.proofs.Common.{◌≡◌, ℕ, ◌+◌, min, List, [], ◌∷◌, fold, Option, Some, None, refl, ◌∙◌}
 use Rattle.std.specs.Option.{option_map_or}
-use Rattle.cg_group.specs.EachLaws.{Each}
+use Rattle.cg_base.specs.Lists.{Each}
 use Rattle.cg_action.specs.declared.action.Kind.TheVariants.{Update, Join as JoinKind, Leave as LeaveKind}
 use Rattle.cg_queue.specs.Queue.{names_of}
 use Rattle.cg_wire.specs.declared.message.Msg.{Msg}

@@ -9,7 +9,7 @@ use Rattle.cg_base.specs.declared.action_id.ActionId.{ActionId}
 use Rattle.cg_base.specs.declared.weighted.Weighted.{Weighted}
 use Rattle.cg_base.specs.Ids.{names, same_id}
 use Rattle.cg_base.specs.Cuts.{index_in, raise}
-use Rattle.cg_base.specs.IdLaws.{same_id-is}
+use Rattle.cg_base.specs.IdLaws.{same_id-is, same_id-back}
 use Rattle.cg_action.specs.declared.action.Action.{Action}
 use Rattle.cg_queue.specs.Queue.{QueueView, names_of, action_of}
 use Rattle.cg_client.specs.Replica.{Held}
@@ -68,12 +68,6 @@ reds-green start all t is =
 
 -- ---- yellow actions
 
-same-back : (a b : ActionId) → same_id a b ≡ true → same_id b a ≡ true
-same-back a b e =
-    let parts = and_parts (a.creator == b.creator) (a.index == b.index) e in
-    and_from (b.creator == a.creator) (b.index == a.index) (eq-eqb b.creator a.creator (sym (eqb-true a.creator b.creator parts.0)))
-    (eq-eqb b.index a.index (sym (eqb-true a.index b.index parts.1)))
-
 -- the kept actions of names that stand among the reds have these names
 one-named : (greens reds : List Action) (id : ActionId) → names (names_of reds) id ≡ true →
     names_of (option_to_list (find (λ a. same_id a.id id) (greens ++ reds))) ≡ id ∷ []
@@ -87,7 +81,7 @@ one-named [] (a ∷ reds) id there = elim (cases_Bool (same_id a.id id)) [
   | inr other ↦ rw other (one-named [] reds id (rest (cases_Bool (same_id id a.id)) other))
 ] where
   rest : (same_id id a.id ≡ true) ⊎ (same_id id a.id ≡ false) → same_id a.id id ≡ false → names (names_of reds) id ≡ true
-  rest (inl same) other = absurd (let clash : true ≡ false = sym (same-back id a.id same) ∙ other in cc)
+  rest (inl same) other = absurd (let clash : true ≡ false = sym (same_id-back id a.id same) ∙ other in cc)
   rest (inr apart) other = ap (λ b. b || names (names_of reds) id) (sym apart) ∙ there
 
 abbrev are_red : QueueView → List ActionId → Bool

@@ -22,6 +22,7 @@ use Rattle.cg_disk_records.specs.Holds.{run_on}
 use Rattle.cg_disk_records.specs.RunLaws.{run_on-next}
 use Rattle.cg_agree_lemmas.specs.HeldMarks.{IsOneself, are_within, rising-red, red-oneself, green-oneself}
 use Rattle.cg_disk_records.specs.HeldLaws.{are_of, names-behind, created-behind}
+use Rattle.cg_disk_records.specs.HoldsValueLaws.{mine-behind}
 
 -- what was held became what is held: the greens grew, and one replica's facts hold of all of them
 pub record Grows (start : List Weighted) (old new : Held) (all : List Action) : Type 0 where
@@ -175,12 +176,6 @@ keeps-install start all t is =
 
 -- ---- creation
 
-all-behind : (me : ℕ) (own : List Action) (a : Action) → are_of me own ≡ true → a.id.creator ≡ me → are_of me (own ++ a ∷ []) ≡ true
-all-behind me [] a mine of_me = and_from (a.id.creator == me) true (eq-eqb a.id.creator me of_me) refl
-all-behind me (b ∷ own) a mine of_me =
-    let parts = and_parts (b.id.creator == me) (are_of me own) mine in
-    and_from (b.id.creator == me) (are_of me (own ++ a ∷ [])) parts.0 (all-behind me own a parts.1 of_me)
-
 pub keeps-create : (kind : Kind) → Keeps (λ t. create t kind)
 unfolding create
 keeps-create kind start all t is =
@@ -191,7 +186,7 @@ keeps-create kind start all t is =
     (oneself-with start h all is h.queue.yellow (h.own ++ a ∷ []) h.yellow_valid h.prim h.attempt_index h.vulnerable h.buffered (h.owed ++ a.id ∷ [])
     is.yellow_closed.next is.yellow_closed.known
     (ap (run_on h.queue.red_cut) (names-behind h.own a) ∙ run_on-next h.queue.red_cut (names_of h.own) a.id is.contiguous.own (ap suc (sym behind)))
-    (all-behind h.id h.own a is.contiguous.mine refl))
+    (mine-behind h.id h.own a is.contiguous.mine refl))
 
 keeps-buffered : (list : Turn → List Kind) → Keeps (λ t. let h = t.replica.held in with_held t (record h { buffered = list t }))
 keeps-buffered list start all t is =

@@ -31,6 +31,7 @@ use Rattle.cg_agree_lemmas.specs.HeldMarks.{IsOneself}
 use Rattle.cg_agree_lemmas.specs.HeldAll.{installed_by}
 use Rattle.cg_agree_lemmas.specs.HeldMessages.{installed-all}
 use Rattle.cg_agree_lemmas.specs.TurnValues.{even-mark_yellow}
+use Rattle.cg_agree_lemmas.specs.ActsWay.{drop-behind}
 
 -- a yellow mark leaves the greens
 pub yellow-greens : (t : Turn) (a : Action) → (mark_yellow t a).replica.held.queue.greens ≡ t.replica.held.queue.greens
@@ -46,16 +47,12 @@ yellow-greens t a =
       named q =
           cond_both (nat_lt (index_in q.green_cut a.id.creator) a.id.index && not (names q.yellow a.id)) (record q { yellow = q.yellow ++ a.id ∷ [] }) q (λ (x : QueueView). x.greens ≡ q.greens) (λ y. refl) (λ n. refl)
 
-drop-front : {X : Type 0} (xs ys : List X) → drop (length xs) (xs ++ ys) ≡ ys
-drop-front [] ys = refl
-drop-front (x ∷ xs) ys = drop-front xs ys
-
 -- the replica has these greens more
 abbrev pub HasInstalledAll : Replica → Replica → Type 0
 HasInstalledAll r new = new.held.queue.greens ≡ r.held.queue.greens ++ installed_by r.held
 
 pub newly-installed : (r new : Replica) → HasInstalledAll r new → newly_green r new ≡ installed_by r.held
-newly-installed r new is = ap (drop (length r.held.queue.greens)) is ∙ drop-front r.held.queue.greens (installed_by r.held)
+newly-installed r new is = ap (drop (length r.held.queue.greens)) is ∙ drop-behind r.held.queue.greens (installed_by r.held)
 
 -- ---- by the last announcement
 

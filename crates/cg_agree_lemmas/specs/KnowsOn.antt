@@ -1,7 +1,7 @@
 -- Who is still in the configuration in which it told something knows all that it knew, and has made nothing in the states of an exchange
 -- and of an attempt: what a turn, a commit and a step leave of that.
 use Rattle.std.proofs.Common.{◌≡◌, ℕ, ◌≤◌, Bool, true, false, cond, List, [], ◌∷◌, fold, refl, sym, ap, ◌∙◌, arith}
-use Rattle.cg_group.specs.EachLaws.{Each}
+use Rattle.cg_base.specs.Lists.{Each}
 use Rattle.cg_base.specs.Cuts.{index_in}
 use Rattle.cg_action.specs.declared.action.Kind.{Kind}
 use Rattle.cg_wire.specs.declared.message.Msg.{Msg}

@@ -3,7 +3,7 @@ use Rattle.std.proofs.Common.{◌≡◌, ℕ, zero, suc, ◌+◌, ◌-◌, ◌�
 use Rattle.std.specs.Prelude.{◌==◌}
 use Rattle.std.specs.List.{list_any, list_all}
 use Rattle.std.proofs.lemmas.Bool.{cond-true, cond_both, and_from, lt-ltb, le-leb, cases_Bool, or_cases, or_right, eqb-false, leb-true, leb-false}
-use Rattle.cg_base.specs.Lists.{count_up, above_up_to}
+use Rattle.cg_base.specs.Lists.{count_up, above_up_to, Each}
 use Rattle.cg_base.specs.Sets.{has}
 use Rattle.cg_wire.specs.declared.message.Msg.{Msg}
 use Rattle.cg_group.specs.declared.phase.Phase.{Phase}
@@ -12,7 +12,7 @@ use Rattle.cg_group.specs.declared.delivery.Delivery.TheVariants.{Transitional a
 use Rattle.cg_group.specs.State.{Standing, Configuration, GroupState, configuration, regular_in, has_received, set_standing}
 use Rattle.cg_group.specs.Events.{send_all, deliveries_at, transitional_places}
 use Rattle.cg_group.specs.Refusals.{sender_at}
-use Rattle.cg_group.specs.EachLaws.{Each, Each-above, Each-weaker}
+use Rattle.cg_group.specs.EachLaws.{Each-above, Each-weaker}
 use Rattle.cg_client.specs.Turn.{Turn, begin}
 use Rattle.cg_client.specs.Requests.{settle}
 use Rattle.cg_disk_records.specs.Crash.{Disk}
@@ -110,7 +110,7 @@ implied true b f = f refl
 implied false b f = refl
 
 -- between two numbers each is among them
-has-counted : (n from k : ℕ) → from ≤ k → k < from + n → has (count_up from n) k ≡ true
+pub has-counted : (n from k : ℕ) → from ≤ k → k < from + n → has (count_up from n) k ≡ true
 has-counted zero from k le less = absurd (omega arith)
 has-counted (suc n) from k le less =
     ⊎_elim (λ here. rw here refl)

@@ -190,3 +190,6 @@ pub mod MadeThere
 pub mod MarksFit
 pub mod PartingIdle
 pub mod TouchedNodes
+pub mod TurnAlong
+pub mod GreensBehind
+pub mod EventRuns

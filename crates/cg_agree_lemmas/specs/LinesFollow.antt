@@ -27,6 +27,7 @@ use Rattle.cg_agree_lemmas.specs.CoresSmall.{StepKeeps, cores-kept, ready-of}
 use Rattle.cg_agree_lemmas.specs.GreenMembers.{FollowsGreens, greens-behind, own-same, takes-follow, settles-follow, asks-follow, newly-more}
 use Rattle.cg_agree_lemmas.specs.LinesGreens.{lines-above}
 use Rattle.cg_agree_lemmas.specs.LinesMade.{white-line-below}
+use Rattle.cg_disk_records.specs.HoldsValueLaws.{dropped}
 
 -- ---- what a turn leaves
 
@@ -34,14 +35,11 @@ use Rattle.cg_agree_lemmas.specs.LinesMade.{white-line-below}
 abbrev pub FollowsAll : List Weighted → Held → List Action → Type 0
 FollowsAll start h all = (h.members ≡ members_of start all) × ((q : ℕ) → is_server h.members q ≡ true → h.queue.white ≤ line_of h.members.servers q)
 
-counts : (n : ℕ) (xs : List Action) → n ≤ length xs → n + length (drop n xs) ≡ length xs
-counts n xs le = let short = length-drop n xs in omega arith
-
 follows-all : (c : Chronicle) (r new : Replica) (all : List Action) → IsCore c r.held all → ((q : ℕ) → is_server r.held.members q ≡ true → r.held.queue.white ≤ line_of r.held.members.servers q) → FollowsGreens r.held new.held →
     FollowsAll c.start new.held (all ++ newly_green r new)
 follows-all c r new all core white f =
     let h = r.held in
-    let count : green_count h.queue ≡ length all = ap (λ xs. h.queue.white + length xs) core.made_of.kept ∙ counts h.queue.white all core.made_of.white in
+    let count : green_count h.queue ≡ length all = ap (λ xs. h.queue.white + length xs) core.made_of.kept ∙ dropped h.queue.white all core.made_of.white in
     let place : suc (green_count h.queue) ≡ 1 + length all = omega arith in
     let more = newly-more r new f in (
       f.members ∙ ap₂ (λ m n. after_greens m n f.more) core.made_of.members place ∙ sym (greens-behind (starting c.start) 1 all f.more) ∙ ap (λ ys. members_of c.start (all ++ ys)) (sym more),

@@ -4,7 +4,7 @@ use Rattle.std.specs.Prelude.{◌==◌}
 use Rattle.std.proofs.lemmas.Bool.{cases_Bool, cond-true, cond-false, cond_both, or_left, or_right, or_cases, ne_eqb, false_from_ne_true}
 use Rattle.cg_base.specs.Sets.{has, with_member}
 use Rattle.cg_base.specs.SetLaws.{has-with_member}
-use Rattle.cg_group.specs.EachLaws.{Each}
+use Rattle.cg_base.specs.Lists.{Each}
 use Rattle.cg_action.specs.declared.action.Action.{Action}
 use Rattle.cg_action.specs.declared.action.Kind.{Kind}
 use Rattle.cg_action.specs.declared.action.Kind.TheVariants.{Update, Join, Leave}
@@ -14,8 +14,9 @@ use Rattle.cg_members.specs.Listed.{line_of}
 use Rattle.cg_members.specs.Servers.{is_among, is_server, was_ever, with_server, without_server, with_line, after_kind, after_green, after_greens}
 use Rattle.cg_model.specs.Fronts.{Front}
 use Rattle.cg_model.specs.FactsReplica.{joins, join_from}
-use Rattle.cg_agree_lemmas.specs.EverServer.{ever-green, among-raised}
+use Rattle.cg_agree_lemmas.specs.EverServer.{ever-green}
 use Rattle.cg_agree_lemmas.specs.LinesTold.{line-with}
+use Rattle.cg_members.specs.MemberLaws.{is_among-with_line}
 
 -- ---- lines in a list of servers
 
@@ -136,7 +137,7 @@ ever-kind-back m place q (Leave server) =
 ever-green-back : (m : Members) (place q : ℕ) (a : Action) → was_ever (after_green m place a) q ≡ true → (was_ever m q ≡ true) ⊎ (joins q a.kind ≡ true)
 ever-green-back m place q a was =
     let behind = after_kind m place a.kind in
-    ever-kind-back m place q a.kind (sym (ap (λ b. b || has behind.left q) (among-raised behind.servers a.id.creator (min a.green_line place) q)) ∙ was)
+    ever-kind-back m place q a.kind (sym (ap (λ b. b || has behind.left q) (is_among-with_line behind.servers a.id.creator (min a.green_line place) q)) ∙ was)
 
 pub ever-joined : (greens : List Action) (m : Members) (base q : ℕ) → was_ever (after_greens m (suc base) greens) q ≡ true → (was_ever m q ≡ true) ⊎ (0 < join_from base greens q)
 ever-joined [] m base q was = inl was
@@ -178,7 +179,7 @@ stays-kind m place q (Leave server) was =
 stays-green : (m : Members) (place q : ℕ) (a : Action) → (a.id.creator ≡ q → ⊥) → was_ever m q ≡ true → is_server (after_green m place a) q ≡ true → LineStays m (after_green m place a) q
 stays-green m place q a apart was is =
     let behind = after_kind m place a.kind in
-    let kind = stays-kind m place q a.kind was (sym (among-raised behind.servers a.id.creator (min a.green_line place) q) ∙ is) in
+    let kind = stays-kind m place q a.kind was (sym (is_among-with_line behind.servers a.id.creator (min a.green_line place) q) ∙ is) in
     record { server = kind.server; line = line-raised-other behind.servers a.id.creator (min a.green_line place) q apart ∙ kind.line }
 
 line-stays : (greens : List Action) (m : Members) (base q : ℕ) → Each (λ a. a.id.creator ≡ q → ⊥) greens → was_ever m q ≡ true → is_server (after_greens m (suc base) greens) q ≡ true →
@@ -211,7 +212,7 @@ joins-green m place q a apart joined none =
     let behind = after_kind m place a.kind in
     let kind = joins-kind m place q a.kind joined none in
     record {
-      ever = ap (λ b. b || has behind.left q) (among-raised behind.servers a.id.creator (min a.green_line place) q) ∙ kind.ever;
+      ever = ap (λ b. b || has behind.left q) (is_among-with_line behind.servers a.id.creator (min a.green_line place) q) ∙ kind.ever;
       line = line-raised-other behind.servers a.id.creator (min a.green_line place) q apart ∙ kind.line;
     }
 
@@ -253,6 +254,6 @@ lines-above (a ∷ greens) m base w le above q is =
     let behind = after_kind m (suc base) a.kind in
     lines-above greens (after_green m (suc base) a) (suc base) w (omega arith)
     (λ p there.
-    let low = above-kind m base w a.kind le above p (sym (among-raised behind.servers a.id.creator (min a.green_line (suc base)) p) ∙ there) in
+    let low = above-kind m base w a.kind le above p (sym (is_among-with_line behind.servers a.id.creator (min a.green_line (suc base)) p) ∙ there) in
     let up = line-raised-up behind.servers a.id.creator (min a.green_line (suc base)) p in
     omega arith) q is

@@ -15,7 +15,8 @@ use Rattle.cg_model.specs.Chronicle.{Told}
 use Rattle.cg_model.specs.Fronts.{When}
 use Rattle.cg_model.specs.FactsExchange.{AreReached, HasReached}
 use Rattle.cg_model.specs.FactsReplica.{joins, join_from}
-use Rattle.cg_agree_lemmas.specs.EverServer.{ever-green, among-raised}
+use Rattle.cg_agree_lemmas.specs.EverServer.{ever-green}
+use Rattle.cg_members.specs.MemberLaws.{is_among-with_line}
 
 -- ---- one line
 
@@ -122,7 +123,7 @@ below-next m base q count a greens (inr le) = ⊎_elim
       raised-ever : (m : Members) (base q : ℕ) (a : Action) → was_ever (after_kind m (suc base) a.kind) q ≡ true → was_ever (after_green m (suc base) a) q ≡ true
       raised-ever m base q a was =
           let behind = after_kind m (suc base) a.kind in
-          ap (λ b. b || has behind.left q) (among-raised behind.servers a.id.creator (min a.green_line (suc base)) q) ∙ was
+          ap (λ b. b || has behind.left q) (is_among-with_line behind.servers a.id.creator (min a.green_line (suc base)) q) ∙ was
 
 pub greens-below : (greens : List Action) (m : Members) (base q count : ℕ) → JoinsBelow m base greens q count → AreReached q count greens → line_of m.servers q ≤ count →
     line_of (after_greens m (suc base) greens).servers q ≤ count

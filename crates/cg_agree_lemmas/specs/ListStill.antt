@@ -31,18 +31,15 @@ use Rattle.cg_disk_records.specs.Holds.{cut_behind}
 use Rattle.cg_agree_lemmas.specs.SameAttempt.{KeepsAttempts}
 use Rattle.cg_agree_lemmas.specs.TurnKinds.{IsQuiet}
 use Rattle.cg_disk_records.specs.RunMarkLaws.{run-names}
+use Rattle.cg_agree_lemmas.specs.ReachWorld.{when-is}
 
 -- what a member holds of its attempt
 abbrev pub ListAt : Chronicle → ℕ → Type 0
 ListAt c p = IfSome (replica_of c.world p) (λ r. When (is_attempting r.state) (IsSomeWith (attempt_of c (conf_at (phase_of c.world.group p))) (HoldsParts r.held (greens_of c p))))
 
-when-from : (b : Bool) (A : Type 0) → (b ≡ true → A) → When b A
+pub when-from : (b : Bool) (A : Type 0) → (b ≡ true → A) → When b A
 when-from true A f = f refl
 when-from false A f = tt
-
-when-at : (b : Bool) (A : Type 0) → b ≡ true → When b A → A
-when-at true A e w = w
-when-at false A e w = absurd (let clash : false ≡ true = e in cc)
 
 -- the same parts
 pub record SameParts (old new : Held) : Type 0 where
@@ -76,7 +73,7 @@ list-still c d p keeps conf was is = at (replica_of d.world p) was where
   at (Some new) was = when-from (is_attempting new.state) (IsSomeWith (attempt_of d (conf_at (phase_of d.world.group p))) (HoldsParts new.held (greens_of d p))) (λ e.
       let w = was e in
       let old = subst (λ (o : Option Replica). IfSome o (λ r. When (is_attempting r.state) (IsSomeWith (attempt_of c (conf_at (phase_of c.world.group p))) (HoldsParts r.held (greens_of c p))))) w.was is in
-      let held = when-at (is_attempting w.old.state) (IsSomeWith (attempt_of c (conf_at (phase_of c.world.group p))) (HoldsParts w.old.held (greens_of c p))) w.attempting old in
+      let held = when-is (is_attempting w.old.state) (IsSomeWith (attempt_of c (conf_at (phase_of c.world.group p))) (HoldsParts w.old.held (greens_of c p))) w.attempting old in
       subst (λ k. IsSomeWith (attempt_of d k) (HoldsParts new.held (greens_of d p))) (sym conf)
       (subst (λ all. IsSomeWith (attempt_of d (conf_at (phase_of c.world.group p))) (HoldsParts new.held all)) (sym w.greens)
       (parts-still c d (conf_at (phase_of c.world.group p)) w.old.held new.held (greens_of c p) keeps w.parts held)))

@@ -28,6 +28,7 @@ use Rattle.cg_agree_lemmas.specs.GroupChanges.{DoRise, rising-set, rising-down, 
 use Rattle.cg_agree_lemmas.specs.NodeFacts.{ids-hosted}
 use Rattle.cg_agree_lemmas.specs.GatherReceipts.{rising-gets}
 use Rattle.cg_agree_lemmas.specs.SmallWorlds.{grouped, turned_in, turning_in, commit_in, crash_in, recover_in, copy_in, join_in, small_in, may_in, may-of, small-world}
+use Rattle.cg_agree_lemmas.specs.GatherPlaces.{rising-next}
 
 -- ---- the group
 
@@ -49,10 +50,6 @@ received-changed (x ∷ list) n c is each = cond_both (n == 1) (c ∷ list) (x �
 received-next : (list : List (Configuration Msg)) (c : Configuration Msg) → AreRising c.received → AreReceived list → AreReceived (list ++ c ∷ [])
 received-next [] c is each = (is, tt)
 received-next (x ∷ list) c is each = (each.0, received-next list c is each.1)
-
-rising-next : (rs : List (List ℕ)) (p : ℕ) → AreRising rs → AreRising (rs ++ (p ∷ []) ∷ [])
-rising-next [] p each = ((omega arith, tt), tt)
-rising-next (set ∷ rs) p each = (each.0, rising-next rs p each.1)
 
 keyed-set : (g : GroupState Msg) (s : Standing Msg) → IsKeyed g → IsKeyed (set_standing g s)
 unfolding set_standing

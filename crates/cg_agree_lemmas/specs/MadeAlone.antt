@@ -18,11 +18,7 @@ use Rattle.cg_model.specs.Played.{IsSame}
 use Rattle.cg_agree_lemmas.specs.UnorderedKept.{first-none, refused-not}
 use Rattle.cg_agree_lemmas.specs.MadeQuietly.{IsMadeIn, same-worlds}
 use Rattle.cg_agree_lemmas.specs.SmallWorlds.{small_in, may_in, crash_in, recover_in}
-
--- what no test refuses
-pub not-refused : (b : Bool) (r : Reason) → refuse b r ≡ None → b ≡ false
-not-refused true r e = absurd (let clash : Some r ≡ None = e in cc)
-not-refused false r e = refl
+use Rattle.cg_group.specs.RefusalLaws.{refuse_none}
 
 -- who takes part is up, and has not left
 pub record TakesPart (w : World) (p : ℕ) : Type 0 where
@@ -67,7 +63,7 @@ recover-made w p admitted =
     let first = first-none (unknown w p) (already_up w p ∷ []) (ap is_none admitted) in
     let second = first-none (already_up w p) [] first.1 in
     let begun : has_begun w p ≡ true = refused-not (has_begun w p) _ first.0 in
-    let down : is_some (replica_of w p) ≡ false = not-refused (is_some (replica_of w p)) _ second.0 in
+    let down : is_some (replica_of w p) ≡ false = refuse_none (is_some (replica_of w p)) _ second.0 in
     ((and_from (has_begun w p) (not (is_some (replica_of w p))) begun (ap not down), tt), at (node_of w p)) where
       life-same : (life : NodeState) → IsSame (recover_in w life) (ended (recover_from w life)).world
       life-same (Up r disk) = same-worlds _ _ refl refl refl

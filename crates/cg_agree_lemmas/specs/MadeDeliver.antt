@@ -29,11 +29,11 @@ use Rattle.cg_agree_lemmas.specs.GroupTurn.{standing-id}
 use Rattle.cg_agree_lemmas.specs.GroupChanges.{DoRise, set-self, down-own, sent-waits}
 use Rattle.cg_agree_lemmas.specs.NodeFacts.{node-self}
 use Rattle.cg_agree_lemmas.specs.MadeQuietly.{IsMadeIn}
-use Rattle.cg_agree_lemmas.specs.MadeAlone.{not-refused}
 use Rattle.cg_agree_lemmas.specs.TurnWorlds.{hosted, up_node, runs-hosted, turn-ends, ended_in}
 use Rattle.cg_agree_lemmas.specs.EventTurns.{IsUp, is-up, IsWorld, hand-leads, end-same}
 use Rattle.cg_agree_lemmas.specs.HandWorlds.{standing, handed_to, hands-all, settles}
 use Rattle.cg_agree_lemmas.specs.SmallWorlds.{grouped, small_in, may_in, played_in, MayIn, played-append, may-append}
+use Rattle.cg_group.specs.RefusalLaws.{refuse_none}
 
 -- who is regular stands in the group, in a phase with a number
 pub record StandsRegular (g : GroupState Msg) (p : ℕ) : Type 0 where
@@ -150,7 +150,7 @@ delivering w p count ups admitted =
     let first = first-none (unknown w p) (deliver_refusal w.group p count ∷ []) (ap is_none admitted) in
     let up = first-none (not_up w.group p) (not_regular w.group p ∷ not_ready w.group p count ∷ []) (ap is_none (first-none (deliver_refusal w.group p count) [] first.1).0) in
     let regular = first-none (not_regular w.group p) (not_ready w.group p count ∷ []) up.1 in
-    let enough = not-refused (nat_lt (ready w.group p) count) _ (first-none (not_ready w.group p count) [] regular.1).0 in
+    let enough = refuse_none (nat_lt (ready w.group p) count) _ (first-none (not_ready w.group p count) [] regular.1).0 in
     record {
       here = is-up w p (ups p ∙ refused-not (is_up w.group p) _ up.0);
       in_group = stands-regular w.group p (refused-not (is_regular w.group p) _ regular.0);

@@ -17,10 +17,10 @@ use Rattle.cg_disk_records.specs.RunLaws.{cut_behind-append, run_on-next}
 use Rattle.cg_agree_lemmas.specs.HeldMarks.{IsOneself}
 use Rattle.cg_disk_records.specs.HeldLaws.{names-behind, created-behind}
 use Rattle.cg_agree_lemmas.specs.DiskAhead.{OwnRuns}
-use Rattle.cg_agree_lemmas.specs.BookGrows.{all-own}
 use Rattle.cg_agree_lemmas.specs.CreatedKept.{StaysCreated, created-rule, created-first}
 use Rattle.cg_agree_lemmas.specs.TurnRows.{of-deliveries}
 use Rattle.cg_agree_lemmas.specs.KeptEmpty.{anything}
+use Rattle.cg_disk_records.specs.HoldsValueLaws.{mine-behind}
 
 -- a cut, with what was made in the turn, counts what the replica has created; others' counts stay; and own greens are no more than
 -- what it had created
@@ -49,7 +49,7 @@ module _ (cut : List ActionId) (rising : Rising 0 cut) (old : Held) where
       let behind : index_in (cut_behind h.queue.red_cut (names_of h.own)) h.id ≡ created h = created-behind h.queue.red_cut h.id h.own is.own.rising is.own.run is.own.mine in
       let runs : run_on h.queue.red_cut (names_of (h.own ++ a ∷ [])) ≡ true =
       ap (run_on h.queue.red_cut) (names-behind h.own a) ∙ run_on-next h.queue.red_cut (names_of h.own) a.id is.own.run (ap suc (sym behind)) in
-      let mine = all-own h.id h.own a is.own.mine refl in
+      let mine = mine-behind h.id h.own a is.own.mine refl in
       let new_behind : index_in (cut_behind h.queue.red_cut (names_of (h.own ++ a ∷ []))) h.id ≡ max (index_in h.queue.red_cut h.id) (last_index (h.own ++ a ∷ [])) =
       created-behind h.queue.red_cut h.id (h.own ++ a ∷ []) is.own.rising runs mine in
       let raised : index_in (raise (cut_behind h.queue.red_cut (names_of h.own)) a.id) h.id ≡ max (index_in (cut_behind h.queue.red_cut (names_of h.own)) h.id) (suc (created h)) =

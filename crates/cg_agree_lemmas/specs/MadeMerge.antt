@@ -4,7 +4,7 @@ use Rattle.std.specs.Prelude.{◌==◌}
 use Rattle.std.specs.Option.{option_map_or}
 use Rattle.std.specs.List.{list_all}
 use Rattle.std.proofs.lemmas.Bool.{and_from, cond-true}
-use Rattle.cg_base.specs.Lists.{at_place}
+use Rattle.cg_base.specs.Lists.{at_place, Each}
 use Rattle.cg_base.specs.Sets.{has, IsSet}
 use Rattle.cg_base.specs.Text.{is_nil}
 use Rattle.cg_wire.specs.declared.message.Msg.{Msg}
@@ -15,7 +15,6 @@ use Rattle.cg_group.specs.declared.delivery.Delivery.TheVariants.{Regular as Reg
 use Rattle.cg_group.specs.declared.delivery.Handed.{Handed}
 use Rattle.cg_group.specs.State.{Standing, Configuration, GroupState, no_configuration, standing_of, configuration, phase_of, regular_in, is_regular, set_standing}
 use Rattle.cg_group.specs.Events.{send_all, become_regular, merge}
-use Rattle.cg_group.specs.EachLaws.{Each}
 use Rattle.cg_group.specs.PlaceLaws.{at_place-last}
 use Rattle.cg_client.specs.Replica.{Replica}
 use Rattle.cg_client.specs.Turn.{Turn, begin}

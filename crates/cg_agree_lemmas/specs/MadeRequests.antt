@@ -25,10 +25,11 @@ use Rattle.cg_model.specs.Smalls.{may_make, smalls_in, turns_as, ending, ending_
 use Rattle.cg_model.specs.Played.{IsSame}
 use Rattle.cg_agree_lemmas.specs.UnorderedKept.{first-none}
 use Rattle.cg_agree_lemmas.specs.MadeQuietly.{IsMadeIn}
-use Rattle.cg_agree_lemmas.specs.MadeAlone.{not-refused, TakesPart, takes-part}
+use Rattle.cg_agree_lemmas.specs.MadeAlone.{TakesPart, takes-part}
 use Rattle.cg_agree_lemmas.specs.TurnWorlds.{turn-first, turn-ends, ended_in}
 use Rattle.cg_agree_lemmas.specs.EventTurns.{is-up, IsWorld, hand-leads, end-same}
 use Rattle.cg_agree_lemmas.specs.SmallWorlds.{small_in, may_in, played_in}
+use Rattle.cg_group.specs.RefusalLaws.{refuse_none}
 
 module _ (w : World) (e : Event) (named : List ℕ) (p : ℕ) (kind : Kind) where
   abbrev went : World
@@ -68,7 +69,7 @@ module _ (w : World) (e : Event) (named : List ℕ) (p : ℕ) (kind : Kind) wher
 
 -- who takes part hasn't left
 pub stays-in : (w : World) (p : ℕ) → TakesPart w p → is_left w p ≡ false
-stays-in w p takes = not-refused (is_left w p) _ takes.rest
+stays-in w p takes = refuse_none (is_left w p) _ takes.rest
 
 pub request-made : (w : World) (p : ℕ) (cmds : List Cmd) (query : Option Query) → ((q : ℕ) → is_some (replica_of w q) ≡ is_up w.group q) →
     first_refusal w (Request p cmds query) ≡ None → IsMadeIn w (Request p cmds query)

@@ -3,7 +3,7 @@ use Rattle.std.proofs.Common.{◌≡◌, ℕ, suc, ◌+◌, ◌-◌, ◌≤◌, 
 use Rattle.std.specs.Prelude.{◌==◌}
 use Rattle.std.specs.Option.{option_map_or}
 use Rattle.std.proofs.lemmas.Bool.{or_cases}
-use Rattle.cg_base.specs.Lists.{above_up_to}
+use Rattle.cg_base.specs.Lists.{above_up_to, Each}
 use Rattle.cg_base.specs.Sets.{has, Ascends}
 use Rattle.cg_wire.specs.declared.message.Msg.{Msg}
 use Rattle.cg_group.specs.declared.phase.Phase.{Phase}
@@ -15,7 +15,6 @@ use Rattle.cg_group.specs.State.{Standing, Configuration, GroupState, standing_o
 use Rattle.cg_group.specs.Ready.{ready_in}
 use Rattle.cg_group.specs.Refusals.{sender_at}
 use Rattle.cg_group.specs.Events.{send_all, deliveries_at, furthest, transitional_places, handed_in_split, become_transitional, split}
-use Rattle.cg_group.specs.EachLaws.{Each}
 use Rattle.cg_group.specs.LookupLaws.{standing_of-set, put-other}
 use Rattle.cg_client.specs.Replica.{Replica}
 use Rattle.cg_client.specs.Turn.{Turn, begin}

@@ -22,9 +22,10 @@ use Rattle.cg_model.specs.Played.{IsSame, GivenSnapshot}
 use Rattle.cg_agree_lemmas.specs.UnorderedKept.{first-none, refused-not}
 use Rattle.cg_agree_lemmas.specs.HandSays.{find-holds}
 use Rattle.cg_agree_lemmas.specs.MadeQuietly.{IsMadeIn, same-worlds}
-use Rattle.cg_agree_lemmas.specs.MadeAlone.{not-refused, is-running}
+use Rattle.cg_agree_lemmas.specs.MadeAlone.{is-running}
 use Rattle.cg_agree_lemmas.specs.SmallWorlds.{small_in, may_in, copy_in, join_in, played_in, MayIn}
 use Rattle.cg_client.specs.Joined.{piece_count}
+use Rattle.cg_group.specs.RefusalLaws.{refuse_none}
 
 -- ---- lists
 
@@ -313,5 +314,5 @@ transfer-made w p joiner pieces up each once admitted =
     let fifth = first-none (not_green w p joiner) [] fourth.1 in
     let run = is-running w p up in
     let green : option_map_or (λ (r : Replica). is_server r.held.members joiner) (replica_of w p) false ≡ true = refused-not _ (JoinNotGreen joiner) fifth.0 in
-    made-transfer w p joiner pieces run.replica run.is each once (not-refused (has_begun w joiner) _ third.0)
+    made-transfer w p joiner pieces run.replica run.is each once (refuse_none (has_begun w joiner) _ third.0)
     (sym (ap (λ (o : Option Replica). option_map_or (λ (r : Replica). is_server r.held.members joiner) o false) run.is) ∙ green)

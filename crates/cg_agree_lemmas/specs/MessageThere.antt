@@ -21,6 +21,7 @@ use Rattle.cg_model.specs.FactsTalk.{IsContent, AreContents, Content}
 use Rattle.cg_agree_lemmas.specs.HandMarks.{made-so}
 use Rattle.cg_disk_records.specs.Holds.{cut_behind}
 use Rattle.cg_disk_records.specs.RunMarkLaws.{run-names}
+use Rattle.cg_agree_lemmas.specs.NumbersSame.{contents-front}
 
 -- ---- booked actions
 
@@ -90,13 +91,8 @@ placed-content greens q (x ∷ list) (suc n) s are e mine =
       at true are = are.1
       at false are = are
 
--- a front of content is content
-contents-of : (greens : List Action) (xs ys : List Msg) → AreContents greens (xs ++ ys) → AreContents greens xs
-contents-of greens [] ys are = tt
-contents-of greens (m ∷ xs) ys are = (are.0, contents-of greens xs ys are.1)
-
 -- a message that was placed is content of what its sender told
 pub message-content : (c : Chronicle) (conf n : ℕ) (s : Sent Msg) (t : Told) → Content c → slice_get (ordered_in c conf) n ≡ Some s → told_in c conf s.from ≡ Some t → IsContent t.greens s.message
 message-content c conf n s t content next found =
     let all = subst (λ (o : Option Told). IfSome o (λ t. AreContents t.greens (said_in c conf s.from))) found (content conf s.from) in
-    placed-content t.greens s.from (ordered_in c conf) n s (contents-of t.greens (placed_of s.from (ordered_in c conf)) (waiting_in c conf s.from) all) next (eq-eqb s.from s.from refl)
+    placed-content t.greens s.from (ordered_in c conf) n s (contents-front t.greens (placed_of s.from (ordered_in c conf)) (waiting_in c conf s.from) all) next (eq-eqb s.from s.from refl)

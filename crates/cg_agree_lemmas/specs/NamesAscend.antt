@@ -6,19 +6,16 @@ use Rattle.cg_base.specs.declared.action_id.ActionId.{ActionId}
 use Rattle.cg_base.specs.Cuts.{index_in}
 use Rattle.cg_base.specs.Ids.{same_id, id_before, names}
 use Rattle.cg_base.specs.IdLaws.{same_id-true, same_id-false, same_name}
-use Rattle.cg_base.specs.Lists.{count_up}
+use Rattle.cg_base.specs.Lists.{count_up, Each}
 use Rattle.cg_base.specs.Sets.{has}
 use Rattle.cg_base.specs.IdRuns.{names_above}
-use Rattle.cg_group.specs.EachLaws.{Each, Each-append}
+use Rattle.cg_group.specs.EachLaws.{Each-append}
 use Rattle.cg_model.specs.FactsLists.{IsRising}
 use Rattle.cg_disk_records.specs.Holds.{run_on, cut_behind, ascend, Rising}
-use Rattle.cg_disk_records.specs.RunMarkLaws.{run-names, before-parts, before-creator, before-index, before-trans}
+use Rattle.cg_disk_records.specs.RunMarkLaws.{run-names, before-parts, before-creator, before-index, before-trans, ascend-less}
+use Rattle.cg_agree_lemmas.specs.EventSays.{names-both}
 
 -- ---- names in order
-
-ascend-rest : (x : ActionId) (ids : List ActionId) → ascend (x ∷ ids) ≡ true → ascend ids ≡ true
-ascend-rest x [] up = refl
-ascend-rest x (y ∷ ids) up = (and_parts (id_before x y) (ascend (y ∷ ids)) up).1
 
 -- what comes behind a later name comes behind this one
 each-later : (x y : ActionId) (ids : List ActionId) → id_before x y ≡ true → Each (λ z. id_before y z ≡ true) ids → Each (λ z. id_before x z ≡ true) ids
@@ -88,7 +85,7 @@ same-ascending [] (y ∷ ys) up down same = absurd (let clash : false ≡ true =
 same-ascending (x ∷ xs) [] up down same = absurd (let clash : false ≡ true = sym (same x) ∙ or_left (same_id x x) (names xs x) (same-itself x) in cc)
 same-ascending (x ∷ xs) (y ∷ ys) up down same =
     let e = same-first x y xs ys up down same in
-    ap₂ (λ z zs. z ∷ zs) e (same-ascending xs ys (ascend-rest x xs up) (ascend-rest y ys down) (same-rest x y xs ys up down same e))
+    ap₂ (λ z zs. z ∷ zs) e (same-ascending xs ys (ascend-less x xs up) (ascend-less y ys down) (same-rest x y xs ys up down same e))
 
 -- ---- the names between two cuts
 
@@ -110,13 +107,6 @@ numbered-ascend creator from (suc (suc count)) ids up each =
 or-none : (b : Bool) → (b || false) ≡ b
 or-none true = refl
 or-none false = refl
-
-names-both : (xs ys : List ActionId) (id : ActionId) → names (xs ++ ys) id ≡ (names xs id || names ys id)
-names-both [] ys id = refl
-names-both (x ∷ xs) ys id = ap (λ b. same_id id x || b) (names-both xs ys id) ∙ regroup (same_id id x) (names xs id) (names ys id) where
-  regroup : (a b c : Bool) → (a || (b || c)) ≡ ((a || b) || c)
-  regroup true b c = refl
-  regroup false b c = refl
 
 -- which names these are
 numbered-other : (creator from count : ℕ) (id : ActionId) → (id.creator ≡ creator → ⊥) → names (numbered creator from count) id ≡ false

@@ -5,7 +5,7 @@ use Rattle.std.proofs.lemmas.Bool.{cases_lt, cases_Bool, cond-true, cond-false, 
 use Rattle.cg_base.specs.declared.action_id.ActionId.{ActionId}
 use Rattle.cg_base.specs.Cuts.{index_in, raise}
 use Rattle.cg_base.specs.Ids.{same_id, names}
-use Rattle.cg_base.specs.IdLaws.{same_id-is}
+use Rattle.cg_base.specs.IdLaws.{same_id-is, same_id-back}
 use Rattle.cg_model.specs.Fronts.{Front}
 use Rattle.cg_disk_records.specs.Holds.{run_on, cut_behind, Rising}
 use Rattle.cg_agree_lemmas.specs.FrontFacts.{Front-of_both, Front-append}
@@ -14,9 +14,6 @@ use Rattle.cg_disk_records.specs.RunLaws.{run_on-append}
 use Rattle.cg_disk_records.specs.RunMarkLaws.{run-head, run-rest, names-new}
 use Rattle.cg_agree_lemmas.specs.BookGrows.{same-self}
 use Rattle.cg_agree_lemmas.specs.RepliesPlaced.{IsIn, times}
-
-pub same_id-swap : (a b : ActionId) → same_id a b ≡ true → same_id b a ≡ true
-same_id-swap a b e = (let same = same_id-is a b e in subst (λ x. same_id x a ≡ true) same (same-self a))
 
 -- ---- how often
 
@@ -31,7 +28,7 @@ named-times id [] e = absurd (let clash : false ≡ true = e in cc)
 named-times id (x ∷ ids) e = elim (cases_Bool (same_id x id)) [
   | inl here ↦ (let now = times-here id x ids here in omega arith)
   | inr other ↦
-      let rest = named-times id ids (later (same_id id x) (names ids id) (λ y. (let clash : true ≡ false = sym (same_id-swap id x y) ∙ other in cc)) e) in
+      let rest = named-times id ids (later (same_id id x) (names ids id) (λ y. (let clash : true ≡ false = sym (same_id-back id x y) ∙ other in cc)) e) in
       let now = times-not id x ids other in
       omega arith
 ] where
@@ -42,7 +39,7 @@ named-times id (x ∷ ids) e = elim (cases_Bool (same_id x id)) [
 pub times-named : (id : ActionId) (ids : List ActionId) → 1 ≤ times id ids → names ids id ≡ true
 times-named id [] le = absurd (omega arith)
 times-named id (x ∷ ids) le = elim (cases_Bool (same_id x id)) [
-  | inl here ↦ ap (λ b. b || names ids id) (same_id-swap x id here)
+  | inl here ↦ ap (λ b. b || names ids id) (same_id-back x id here)
   | inr other ↦ or-later (same_id id x) (names ids id) (times-named id ids (let now = times-not id x ids other in omega arith))
 ] where
   or-later : (a b : Bool) → b ≡ true → (a || b) ≡ true

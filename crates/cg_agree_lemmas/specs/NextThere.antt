@@ -21,7 +21,7 @@ use Rattle.cg_agree_lemmas.specs.ConfSound.{nothing-missing}
 use Rattle.cg_agree_lemmas.specs.GroupTurn.{standing-id}
 use Rattle.cg_agree_lemmas.specs.HandsKept.{regular-phase}
 use Rattle.cg_agree_lemmas.specs.OrdersWorld.{OrdersAt}
-use Rattle.cg_agree_lemmas.specs.SmallTalk.{conf-there, some-waits, within-phase}
+use Rattle.cg_agree_lemmas.specs.SmallTalk.{conf-there, some-waits, within-phase, refused-nothing}
 use Rattle.cg_agree_lemmas.specs.UnorderedKept.{regular-where_ordered, first-none, refused-not}
 
 -- a message of a replica that may be ordered
@@ -83,10 +83,6 @@ pub record ReceivesNow (c : Chronicle) (p place : ℕ) : Type 0 where
   pub within : place ≤ length (ordered_in c conf)
   pub earlier : (k : ℕ) → 0 < k → k < place → sender_at (conf_of c conf) k ≡ sender_at (conf_of c conf) place → has_received (conf_of c conf) p k ≡ true
 
-refused-none : (b : Bool) (r : Reason) → cond b (Some r) None ≡ None → b ≡ false
-refused-none true r e = absurd (let clash : Some r ≡ None = e in cc)
-refused-none false r e = refl
-
 place-there : {X : Type 0} (xs : List X) (place : ℕ) → is_none (at_place xs place) ≡ false → (0 < place) × (place ≤ length xs)
 place-there xs place some = (
   above place some,
@@ -116,7 +112,7 @@ receives-now c p place sound may =
     let member = (subst (IsPhase c p (delivered_to g p)) phase.is (sound.phase p)).0 in
     let range = conf-there g phase.at p member in
     let at : regular_in (phase_of g p) ≡ phase.at = ap regular_in phase.is in
-    let inside = place-there (home g p).ordered place (refused-none (is_none (at_place (home g p).ordered place)) _ three.0) in
+    let inside = place-there (home g p).ordered place (refused-nothing (is_none (at_place (home g p).ordered place)) _ three.0) in
     let none : find (is_missing (home g p) p place) (above_up_to 0 (place - 1)) ≡ None = none-mapped _ five.0 in
     record {
       conf = phase.at;

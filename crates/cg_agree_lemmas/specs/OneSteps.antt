@@ -23,6 +23,7 @@ use Rattle.cg_agree_lemmas.specs.ChronicleFacts.{node_of-set}
 use Rattle.cg_agree_lemmas.specs.GroupTurn.{put-same}
 use Rattle.cg_agree_lemmas.specs.HeldCommit.{recovered-id}
 use Rattle.cg_agree_lemmas.specs.OneStands.{Stands, stands-refl, stands-again, stands-handed, stands-up, stands-entered, stands-parted, stands-down, stands-turning}
+use Rattle.cg_agree_lemmas.specs.HandsKept.{regular-up}
 
 -- behind the step one replica stands so, and is up or not; and who has begun has begun
 pub record OneStep (c d : Chronicle) (p : ℕ) (now : Phase) (n : ℕ) (is : Bool) : Type 0 where
@@ -88,12 +89,6 @@ turning-step c b p part now n sound stands nodes up =
 itself : (w : World) → SameNodes w w
 itself w = record { runs = λ q. refl; begun = λ q. refl }
 
-pub regular-is_up : (g : GroupState Msg) (p : ℕ) → is_regular g p ≡ true → is_up g p ≡ true
-regular-is_up g p regular = at (standing_of g p) regular where
-  at : (o : Option (Standing Msg)) → not (regular_in (option_map_or (λ s. s.phase) o Down) == 0) ≡ true → is_some o ≡ true
-  at None e = absurd (let no' : false ≡ true = e in cc)
-  at (Some s) e = refl
-
 -- a replica that is up takes a turn in which it stands as before
 pub turns-step : (c : Chronicle) (p : ℕ) (part : Turn → Turn) → PhaseSound c →
     OneStep c (turning c p part) p (phase_of c.world.group p) (delivered_to c.world.group p) (is_up c.world.group p)
@@ -110,7 +105,7 @@ pub hands-step : (c : Chronicle) (p : ℕ) → PhaseSound c → is_regular c.wor
 unfolding small_step
 hands-step c p sound regular =
     let g = c.world.group in
-    let up = regular-is_up g p regular in
+    let up = regular-up g p regular in
     turning-step c (handed_next c p) p (take_next g p) (phase_of g p) (suc (delivered_to g p)) sound (stands-handed g p (suc (delivered_to g p)) up) (record { runs = λ q. refl; begun = λ q. refl }) up
 
 pub leaves-step : (c : Chronicle) (p : ℕ) (set : List ℕ) (own : ℕ) (places : List ℕ) → PhaseSound c → is_regular c.world.group p ≡ true →
@@ -118,7 +113,7 @@ pub leaves-step : (c : Chronicle) (p : ℕ) (set : List ℕ) (own : ℕ) (places
 unfolding small_step
 leaves-step c p set own places sound regular =
     let g = c.world.group in
-    turning-step c (leaving c p set own) p (take_parting g p set places) (Transitional (regular_in (phase_of g p)) set) own sound (stands-parted g p set own) (record { runs = λ q. refl; begun = λ q. refl }) (regular-is_up g p regular)
+    turning-step c (leaving c p set own) p (take_parting g p set places) (Transitional (regular_in (phase_of g p)) set) own sound (stands-parted g p set own) (record { runs = λ q. refl; begun = λ q. refl }) (regular-up g p regular)
 
 -- who may come is up, and not regular
 pub coming-is_up : (c : Chronicle) (p : ℕ) → PhaseSound c → may_come c p ≡ true → is_up c.world.group p ≡ true

@@ -17,6 +17,7 @@ use Rattle.cg_agree_lemmas.specs.ChronicleFacts.{node_of-set, past_of-turn, gree
 use Rattle.cg_agree_lemmas.specs.HandSays.{find-holds}
 use Rattle.cg_agree_lemmas.specs.HeldMarks.{IsOneself}
 use Rattle.cg_agree_lemmas.specs.HeldTurns.{Grows, Keeps}
+use Rattle.cg_agree_lemmas.specs.GreenMembers.{drop-front}
 
 abbrev pub AreOneself : Chronicle → Type 0
 AreOneself c = OfCores c (IsOneself c.start)
@@ -70,11 +71,7 @@ rehosted P c d p life now stood at own own_disk snapshots before = record {
 
 -- ---- a turn
 
-drop-whole : (xs ys : List Action) → drop (length xs) (xs ++ ys) ≡ ys
-drop-whole [] ys = refl
-drop-whole (x ∷ xs) ys = drop-whole xs ys
-
-stood-same : (c : Chronicle) (p : ℕ) (r : Replica) (disk : Disk) (t : Turn) (q : ℕ) → stood_of (after_turn c p r disk t) q ≡ stood_of c q
+pub stood-same : (c : Chronicle) (p : ℕ) (r : Replica) (disk : Disk) (t : Turn) (q : ℕ) → stood_of (after_turn c p r disk t) q ≡ stood_of c q
 stood-same c p r disk t q = ap stood (past_of-turn c p r disk t q) ∙ either (q == p) (past_of c q) where
   stood : Option Past → List Action
   stood o = option_map_or (λ x. x.stood) o []
@@ -103,7 +100,7 @@ module _ (c : Chronicle) (p : ℕ) (r : Replica) (disk : Disk) (part : Turn → 
 
   pub turn-oneself : Grows c.start r.held t.replica.held (greens_of c p) → AreOneself (after_turn c p r disk t)
   turn-oneself g =
-      let new : newly_green r t.replica ≡ g.more = ap (drop (length r.held.queue.greens)) g.kept ∙ drop-whole r.held.queue.greens g.more in
+      let new : newly_green r t.replica ≡ g.more = ap (drop (length r.held.queue.greens)) g.kept ∙ drop-front r.held.queue.greens g.more in
       rehosted (IsOneself c.start) c (after_turn c p r disk t) p (Up t.replica disk) (greens_of c p ++ newly_green r t.replica) (stood_of c p)
       (record {
         node = λ q. node_of-set c.world p (Up t.replica disk) q;

@@ -12,7 +12,7 @@ use Rattle.cg_model.specs.Step.{after_event, hand, hand_over, hand_to}
 use Rattle.cg_model.specs.World.{Down, NodeState, Node, Up, World, node_of}
 use Rattle.cg_base.specs.declared.action_id.ActionId.{ActionId}
 use Rattle.cg_client.specs.Turn.{Turn}
-use Rattle.cg_group.specs.EachLaws.{Each}
+use Rattle.cg_base.specs.Lists.{Each}
 use Rattle.cg_group.specs.declared.delivery.Handed.{Handed}
 use Rattle.cg_queue.specs.Queue.{green_count}
 use Rattle.cg_disk_records.specs.Crash.{Crashes, EventEnd, Runs, end_event}

@@ -9,7 +9,7 @@ use Rattle.cg_base.specs.declared.action_id.ActionId.{ActionId}
 use Rattle.cg_base.specs.declared.weighted.Weighted.{Weighted}
 use Rattle.cg_base.specs.Cuts.{index_in}
 use Rattle.cg_base.specs.Ids.{same_id, names}
-use Rattle.cg_base.specs.Lists.{at_place, above_up_to}
+use Rattle.cg_base.specs.Lists.{at_place, above_up_to, Each}
 use Rattle.cg_action.specs.declared.action.Action.{Action}
 use Rattle.cg_knowledge.specs.declared.summary.Summary.{Summary}
 use Rattle.cg_plan.specs.declared.parts.Item.TheVariants.{Green}
@@ -22,7 +22,7 @@ use Rattle.cg_plan.specs.Progress.{turn_of}
 use Rattle.cg_queue.specs.Queue.{names_of, action_of}
 use Rattle.cg_wire.specs.declared.message.Msg.TheVariants.{GreenItem, RedItem}
 use Rattle.cg_group.specs.LookupLaws.{eqb_comm}
-use Rattle.cg_group.specs.EachLaws.{Each, Each-above}
+use Rattle.cg_group.specs.EachLaws.{Each-above}
 use Rattle.cg_group.specs.PlaceLaws.{at_place-within}
 use Rattle.cg_client.specs.Replica.{Held}
 use Rattle.cg_exchange.specs.ExchangeActions.{message_of}

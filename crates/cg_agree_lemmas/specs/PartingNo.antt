@@ -24,7 +24,7 @@ use Rattle.cg_model.specs.ReplicaStep.{on_message, after_delivery}
 
 -- ---- states that messages of a parting don't change
 
-state-marked : (t : Turn) (a : Action) (m : Marking) → (marked t a m).replica.state ≡ t.replica.state
+pub state-marked : (t : Turn) (a : Action) (m : Marking) → (marked t a m).replica.state ≡ t.replica.state
 state-marked t a (Marks Placed q) = refl
 state-marked t a (Marks Known q) = refl
 state-marked t a (Gaps cut) = refl

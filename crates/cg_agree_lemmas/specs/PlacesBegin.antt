@@ -43,13 +43,13 @@ row-front low high (suc n) (place ∷ places) e each =
 
 -- ---- what a leaver has received
 
-counted : (from n k : ℕ) → from ≤ k → k < from + n → has (count_up from n) k ≡ true
+pub counted : (from n k : ℕ) → from ≤ k → k < from + n → has (count_up from n) k ≡ true
 counted from zero k a b = absurd (omega arith)
 counted from (suc n) k a b = ⊎_elim
     (λ e. or_left (from == k) (has (count_up (suc from) n) k) (eq-eqb from k e))
     (λ ne. or_right (from == k) (has (count_up (suc from) n) k) (counted (suc from) n k (omega arith) (omega arith))) (cases_eq from k)
 
-implied : (a b : Bool) → implies a b ≡ true → a ≡ true → b ≡ true
+pub implied : (a b : Bool) → implies a b ≡ true → a ≡ true → b ≡ true
 implied true b e is = e
 implied false b e is = absurd (let clash : false ≡ true = is in cc)
 

@@ -5,9 +5,9 @@ use Rattle.std.specs.Prelude.{◌==◌, nat_lt, slice_get, flat_map}
 use Rattle.std.specs.Option.{option_map_or}
 use Rattle.std.proofs.lemmas.Bool.{cases_lt, cond-true, cond_both, or_cases, ltb-true, ltb-false}
 use Rattle.cg_base.specs.Cuts.{index_in}
-use Rattle.cg_base.specs.Lists.{greatest, count_up, above_up_to}
+use Rattle.cg_base.specs.Lists.{greatest, count_up, above_up_to, Each}
 use Rattle.cg_base.specs.Sets.{has}
-use Rattle.cg_group.specs.EachLaws.{Each, Each-append}
+use Rattle.cg_group.specs.EachLaws.{Each-append}
 use Rattle.cg_knowledge.specs.declared.summary.Summary.{Summary}
 use Rattle.cg_knowledge.specs.Summaries.{most_updated}
 use Rattle.cg_plan.specs.declared.parts.Item.{Item}
@@ -58,7 +58,7 @@ reach-each creator n (s ∷ list) each =
     omega arith
 
 -- what holds of each holds of each of a front
-each-take : {X : Type 0} (P : X → Type 0) (n : ℕ) (xs : List X) → Each P xs → Each P (take n xs)
+pub each-take : {X : Type 0} (P : X → Type 0) (n : ℕ) (xs : List X) → Each P xs → Each P (take n xs)
 each-take P zero xs each = tt
 each-take P (suc n) [] each = tt
 each-take P (suc n) (x ∷ xs) each = (each.0, each-take P n xs each.1)

@@ -32,6 +32,7 @@ use Rattle.cg_agree_lemmas.specs.PlanItems.{ItemAt, plan-item, behind-next}
 use Rattle.cg_agree_lemmas.specs.RunFronts.{run_on-front}
 use Rattle.cg_disk_records.specs.RunMarkLaws.{run-head}
 use Rattle.cg_disk_records.specs.HeldLaws.{names-behind}
+use Rattle.cg_agree_lemmas.specs.TurnGreens.{made-count}
 
 -- the most updated member and another one that remains, as they came: so many greens all that remain have
 pub record AreBeside (heard : List Summary) (low : ℕ) (best mine : Told) : Type 0 where
@@ -88,15 +89,6 @@ green-next t place a made next at =
 green-there : (t : Turn) (place : ℕ) (a : Action) → (place ≡ suc (green_count t.replica.held.queue) → ⊥) → (mark_green_at t place a).replica.held ≡ t.replica.held
 green-there t place a apart =
     ap (λ (u : Turn). u.replica.held) (cond-false (place == suc (green_count t.replica.held.queue)) (mark_green t a) t (ne_eqb place (suc (green_count t.replica.held.queue)) apart))
-
--- the green count is the number of all greens
-counted : (start : List Weighted) (h : Held) (all : List Action) → IsMadeOf start h all → green_count h.queue ≡ length all
-counted start h all made = ap (λ xs. h.queue.white + length xs) made.kept ∙ dropped h.queue.white all made.white
-  where
-    dropped : (n : ℕ) (xs : List Action) → n ≤ length xs → n + length (drop n xs) ≡ length xs
-    dropped zero xs le = omega arith
-    dropped (suc n) [] le = absurd (omega arith)
-    dropped (suc n) (x ∷ xs) le = let rest = dropped n xs (omega arith) in omega arith
 
 -- a front of so many elements has so many
 pub length-taken : {X : Type 0} (n : ℕ) (xs : List X) → n ≤ length xs → length (take n xs) ≡ n
@@ -159,7 +151,7 @@ module _ (start : List Weighted) (heard : List Summary) (low n : ℕ) (best mine
       let c = beside.count in
       let b = beside.below in
       let low_is = beside.above in
-      let count : green_count h.queue ≡ k = counted start h all is.oneself.made_of ∙ length-taken k best.greens size in
+      let count : green_count h.queue ≡ k = made-count start h all is.oneself.made_of ∙ length-taken k best.greens size in
       let none : (creator : ℕ) → red_index creator s.item ≡ 0 = λ creator. ap (red_index creator) kind in
       ⊎_elim
       (λ (next : place ≡ suc (green_count h.queue)).

@@ -49,7 +49,7 @@ opened-at c (suc level) stands some le = at (at_place c.levels (suc level)) refl
   at None e is = absurd is
   at (Some conf) e is = with_attempt conf (attempt_of c conf) e refl is
 
-attempt-is : (c : Chronicle) (level conf : ℕ) (a : Attempt) → at_place c.levels level ≡ Some conf → attempt_of c conf ≡ Some a → attempt_at c level ≡ a
+pub attempt-is : (c : Chronicle) (level conf : ℕ) (a : Attempt) → at_place c.levels level ≡ Some conf → attempt_of c conf ≡ Some a → attempt_at c level ≡ a
 attempt-is c level conf a place found =
     ap (λ o. option_map_or (λ a. a) (option_and_then (attempt_of c) o) (no_attempt c.start)) place
     ∙ ap (λ o. option_map_or (λ a. a) o (no_attempt c.start)) found

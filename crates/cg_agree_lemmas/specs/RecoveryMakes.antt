@@ -2,7 +2,8 @@
 use Rattle.std.proofs.Common.{◌≡◌, ℕ, suc, ◌<◌, ◌≤◌, Bool, true, false, ◌&&◌, List, [], ◌∷◌, ◌++◌, filter, fold, sym, ap, ◌∙◌, subst, arith, eqb-true, leb-true, nat_lt, nat_le, if◌then◌else◌}
 use Rattle.std.specs.Prelude.{◌==◌}
 use Rattle.std.proofs.lemmas.Bool.{and_parts, cond_both, ltb-true}
-use Rattle.cg_group.specs.EachLaws.{Each, Each-append, Each-weaker}
+use Rattle.cg_base.specs.Lists.{Each}
+use Rattle.cg_group.specs.EachLaws.{Each-append, Each-weaker}
 use Rattle.cg_base.specs.declared.action_id.ActionId.{ActionId}
 use Rattle.cg_base.specs.declared.weighted.Weighted.{Weighted}
 use Rattle.cg_base.specs.Cuts.{index_in}

@@ -110,7 +110,7 @@ module _ (c : Chronicle) (p conf place : ℕ) (regular : phase_of c.world.group 
 
 -- ---- a message gets its place
 
-refused-nothing : (b : Bool) (r : Reason) → cond b (Some r) None ≡ None → b ≡ false
+pub refused-nothing : (b : Bool) (r : Reason) → cond b (Some r) None ≡ None → b ≡ false
 refused-nothing true r e = absurd (let clash : Some r ≡ None = e in cc)
 refused-nothing false r e = refl
 

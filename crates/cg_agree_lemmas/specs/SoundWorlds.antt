@@ -2,7 +2,7 @@
 use Rattle.std.proofs.Common.{◌≡◌, ℕ, zero, suc, ◌≤◌, ◌<◌, Bool, true, false, not, List, [], ◌∷◌, Option, Some, None, IfSome, map, length, refl, sym, ap, ◌∙◌, subst, eqb-true, eq-eqb, is_some, option_map, arith}
 use Rattle.std.specs.Prelude.{◌==◌}
 use Rattle.std.specs.Option.{option_map_or}
-use Rattle.cg_base.specs.Lists.{at_place}
+use Rattle.cg_base.specs.Lists.{at_place, Each}
 use Rattle.cg_base.specs.Sets.{has}
 use Rattle.cg_members.specs.Servers.{is_server}
 use Rattle.cg_wire.specs.declared.message.Msg.{Msg}
@@ -11,7 +11,6 @@ use Rattle.cg_group.specs.declared.phase.Phase.TheVariants.{Down, Alone, Regular
 use Rattle.cg_group.specs.State.{Configuration, GroupState, no_configuration, configuration, is_up, is_regular, regular_in, phase_of, has_received, delivered_to}
 use Rattle.cg_group.specs.Ready.{ready_in}
 use Rattle.cg_group.specs.Refusals.{sender_at}
-use Rattle.cg_group.specs.EachLaws.{Each}
 use Rattle.cg_group.specs.PlaceLaws.{at_place-past}
 use Rattle.cg_client.specs.Replica.{State, RegPrim, TransPrim, ExchangeStates, ExchangeActions, Construct, No, Un, NonPrim, Left, Replica}
 use Rattle.cg_model.specs.World.{TransferState, World, replica_of, is_left_state}
@@ -27,6 +26,7 @@ use Rattle.cg_agree_lemmas.specs.GroupChanges.{DoRise}
 use Rattle.cg_agree_lemmas.specs.GatherPlaces.{IsFit, Fits}
 use Rattle.cg_agree_lemmas.specs.MadeTransfer.{served-found}
 use Rattle.cg_agree_lemmas.specs.SameSmalls.{as_given, first-given}
+use Rattle.cg_agree_lemmas.specs.GivenKept.{length-mapped}
 
 -- what they ask of the group
 pub record IsSoundGroup (g : GroupState Msg) : Type 0 where
@@ -47,10 +47,6 @@ pub record IsSound (w : World) : Type 0 where
 
 -- ---- of two worlds that are one
 
-length-map : {X Y : Type 0} (f : X → Y) (xs : List X) → length (map f xs) ≡ length xs
-length-map f [] = refl
-length-map f (x ∷ xs) = ap suc (length-map f xs)
-
 pub sound-same : (w v : World) → IsSame w v → IsSound v → IsSound w
 sound-same w v same is = record {
   group = subst IsSoundGroup (sym same.group) is.group;
@@ -58,7 +54,7 @@ sound-same w v same is = record {
   nodes = subst (IsRising 0) (sym same.nodes) is.nodes;
   served = λ joiner s found. served-of joiner s found (snapshot_of v joiner) refl;
   once = λ joiner. subst (λ n. n ≤ 1)
-      (sym (length-map as_given (snapshots_for v joiner)) ∙ ap length (sym (same.given joiner)) ∙ length-map as_given (snapshots_for w joiner)) (is.once joiner);
+      (sym (length-mapped as_given (snapshots_for v joiner)) ∙ ap length (sym (same.given joiner)) ∙ length-mapped as_given (snapshots_for w joiner)) (is.once joiner);
   between = λ p. subst (λ (o : Option Replica). IfSome o (λ r. is_regular w.group p ≡ false → is_left_state r.state ≡ false → is_between r.state ≡ true)) (sym (same.running p))
       (subst (λ (g : GroupState Msg). IfSome (replica_of v p) (λ r. is_regular g p ≡ false → is_left_state r.state ≡ false → is_between r.state ≡ true)) (sym same.group) (is.between p));
 } where

@@ -21,10 +21,7 @@ use Rattle.cg_exchange.specs.ExchangeActions.{progress}
 use Rattle.cg_model.specs.Looks.{sent_by}
 use Rattle.cg_model.specs.Talk.{Talk, hears_from, hears, is_full, is_through, is_ended, is_announced, is_due, may_go_on, may_say, is_legal}
 use Rattle.cg_agree_lemmas.specs.TalkEarly.{all-member, not_full, due_parts}
-
-and-assoc : (a b c : Bool) → (a && (b && c)) ≡ ((a && b) && c)
-and-assoc true b c = refl
-and-assoc false b c = refl
+use Rattle.cg_disk_records.specs.RunLaws.{and-assoc}
 
 -- two lists are legal where the first is, and the second behind it
 pub legal-append : (set : List ℕ) (conf : ℕ) (xs ys : List (Sent Msg)) (t : Talk) →

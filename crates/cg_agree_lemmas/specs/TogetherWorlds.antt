@@ -9,7 +9,7 @@ use Rattle.cg_wire.specs.declared.message.Msg.{Msg}
 use Rattle.cg_group.specs.declared.delivery.Delivery.{Delivery}
 use Rattle.cg_group.specs.State.{Standing, GroupState, standing_of, set_standing}
 use Rattle.cg_group.specs.Events.{send_all, go_down}
-use Rattle.cg_group.specs.EachLaws.{Each}
+use Rattle.cg_base.specs.Lists.{Each}
 use Rattle.cg_group.specs.LookupLaws.{configurations-set_standing, standing_of-set, standing_of-down, put-other}
 use Rattle.cg_client.specs.Replica.{Replica}
 use Rattle.cg_client.specs.Turn.{Turn}

@@ -2,7 +2,7 @@
 use Rattle.std.proofs.Common.{◌≡◌, ℕ, ◌≤◌, Bool, true, false, not, ◌&&◌, List, [], ◌∷◌, map, filter, fold, min, Option, Some, None, IfSome, sym, ap, subst, ◌∙◌, ⊎_elim, arith}
 use Rattle.std.specs.Option.{option_map_or}
 use Rattle.std.proofs.lemmas.Bool.{and_parts, cond_both, not-true, or_cases}
-use Rattle.cg_base.specs.Lists.{lesser, least_of}
+use Rattle.cg_base.specs.Lists.{lesser, least_of, Each}
 use Rattle.cg_base.specs.Sets.{has, common}
 use Rattle.cg_base.specs.SetLaws.{has-without, has-common}
 use Rattle.cg_action.specs.declared.action.Action.{Action}
@@ -11,7 +11,6 @@ use Rattle.cg_knowledge.specs.Summaries.{senders, gone, remaining, most_updated}
 use Rattle.cg_members.specs.Listed.{line_of}
 use Rattle.cg_members.specs.Servers.{members_of, is_server, was_ever}
 use Rattle.cg_plan.specs.Plan.{of_remaining, least_greens}
-use Rattle.cg_group.specs.EachLaws.{Each}
 use Rattle.cg_client.specs.Replica.{Held}
 use Rattle.cg_model.specs.Chronicle.{Told, Chronicle}
 use Rattle.cg_model.specs.FactsExchange.{HasReached}

@@ -22,3 +22,5 @@ pub mod WeightLaws
 pub mod CutLaws
 pub mod AscendingLaws
 pub mod TextLaws
+pub mod ElementLaws
+pub mod Ascii

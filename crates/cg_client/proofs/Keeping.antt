@@ -4,11 +4,11 @@ use Rattle.std.proofs.Common.{subst, sym, inl, inr, arith}
 use Rattle.std.proofs.lemmas.Bool.{cases_Bool, or_cases, and_parts, eqb-true}
 use Rattle.cg_base.specs.declared.action_id.ActionId.{ActionId}
 use Rattle.cg_base.specs.Ids.{same_id, id_before, names}
-use Rattle.cg_base.specs.Lists.{at_place}
+use Rattle.cg_base.specs.Lists.{at_place, Each}
 use Rattle.cg_base.specs.Cuts.{index_in, with_top, raise}
 use Rattle.cg_action.specs.declared.action.Action.{Action}
 use Rattle.cg_action.specs.ActionLimits.{IsAction, IsActionId}
-use Rattle.cg_records.specs.Limits.{Each, IsIndex, IsName}
+use Rattle.cg_records.specs.Limits.{IsIndex, IsName}
 use Rattle.cg_queue.specs.Queue.{QueueView, Marking, Marks, Gaps, with_red, marked_red, with_yellow, and_yellow, marked_yellow, green_count, action_of, names_of, placed_red, placed_green}
 use Rattle.cg_queue.specs.Answers.{marked_green}
 use Rattle.cg_queue.specs.declared.mark.Mark.{Mark}

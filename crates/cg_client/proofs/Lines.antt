@@ -8,7 +8,8 @@ use Rattle.cg_action.specs.declared.action.Kind.TheVariants.{Update, Join, Leave
 use Rattle.cg_members.specs.declared.server.Server.{Server}
 use Rattle.cg_members.specs.Members.{Members}
 use Rattle.cg_members.specs.Servers.{first_line, with_server, with_line, was_ever, is_server, after_kind, after_green}
-use Rattle.cg_records.specs.Limits.{Each, IsNumber}
+use Rattle.cg_base.specs.Lists.{Each}
+use Rattle.cg_records.specs.Limits.{IsNumber}
 use Rattle.cg_client.proofs.Keeping.{Each-filter}
 
 -- each line has bytes

@@ -1,6 +1,7 @@
 -- What is always so of the actions that are known.
 use Rattle.cg_action.specs.ActionLimits.{IsAction}
-use Rattle.cg_records.specs.Limits.{Each, IsIndex, IsName}
+use Rattle.cg_base.specs.Lists.{Each}
+use Rattle.cg_records.specs.Limits.{IsIndex, IsName}
 use Rattle.cg_queue.specs.Queue.{QueueView}
 
 -- each kept action, each index of a cut and each yellow name is within its limits

@@ -2,7 +2,8 @@ ghost use Rattle.std.specs.Prelude.{◌≡◌, ◌≤◌};
 ghost use Rattle.cg_base.specs.declared.limits.TheConstants.{COUNT_LIMIT};
 ghost use Rattle.cg_action.specs.ActionLimits.{IsAction};
 ghost use Rattle.cg_members.specs.Servers.{starting, after_green, weight_of, white_line};
-ghost use Rattle.cg_records.specs.Limits.{Each, IsNumber};
+ghost use Rattle.cg_base.specs.Lists.{Each};
+ghost use Rattle.cg_records.specs.Limits.{IsNumber};
 
 use cg_action::Action;
 use cg_base::{IdSet, ReplicaId, WeightSet};
@@ -22,7 +23,8 @@ impl Drop for CheckedServers {
 
 impl Model for CheckedServers {
     ghost use Rattle.cg_members.specs.Members.{Members};
-    ghost use Rattle.cg_records.specs.Limits.{Each, IsNumber};
+    ghost use Rattle.cg_base.specs.Lists.{Each};
+    ghost use Rattle.cg_records.specs.Limits.{IsNumber};
 
     ghost Value = { Members };
 

@@ -1,7 +1,7 @@
 //! The installation of a primary component.
 ghost use Rattle.std.specs.Prelude.{◌≡◌, fold, option_map, OnOk, IfOk, Some};
 ghost use Rattle.cg_action.specs.ActionLimits.{IsAction};
-ghost use Rattle.cg_records.specs.Limits.{Each};
+ghost use Rattle.cg_base.specs.Lists.{Each};
 ghost use Rattle.cg_client.specs.Replica.{State};
 ghost use Rattle.cg_client.specs.Turn.{with_held};
 ghost use Rattle.cg_client.specs.Marks.{mark_green};

@@ -1,5 +1,5 @@
 ghost use Rattle.std.specs.Prelude.{◌≡◌, ◌++◌, ◌∷◌, [], OnOk};
-ghost use Rattle.cg_records.specs.Limits.{Each};
+ghost use Rattle.cg_base.specs.Lists.{Each};
 ghost use Rattle.cg_wire.specs.Limits.{IsMsg};
 
 use cg_base::{NoMemory, Row};
@@ -20,7 +20,7 @@ impl Drop for Messages {
 
 impl Model for Messages {
     ghost use Rattle.std.specs.Prelude.{List};
-    ghost use Rattle.cg_records.specs.Limits.{Each};
+    ghost use Rattle.cg_base.specs.Lists.{Each};
     ghost use Rattle.cg_wire.specs.declared.message.Msg.{Msg};
     ghost use Rattle.cg_wire.specs.Limits.{IsMsg};
 

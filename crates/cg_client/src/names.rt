@@ -1,6 +1,6 @@
 ghost use Rattle.std.specs.Prelude.{◌≡◌, ◌++◌, ◌∷◌, [], OnOk};
 ghost use Rattle.cg_action.specs.ActionLimits.{IsActionId};
-ghost use Rattle.cg_records.specs.Limits.{Each};
+ghost use Rattle.cg_base.specs.Lists.{Each};
 
 use cg_base::{ActionId, IdList, NoMemory, Row};
 use std::alloc::Global;
@@ -21,7 +21,7 @@ impl Model for Names {
     ghost use Rattle.std.specs.Prelude.{List};
     ghost use Rattle.cg_base.specs.declared.action_id.ActionId.{ActionId};
     ghost use Rattle.cg_action.specs.ActionLimits.{IsActionId};
-    ghost use Rattle.cg_records.specs.Limits.{Each};
+    ghost use Rattle.cg_base.specs.Lists.{Each};
 
     ghost Value = { List ActionId };
 

@@ -4,7 +4,7 @@ ghost use Rattle.cg_action.specs.ActionLimits.{IsAction};
 ghost use Rattle.cg_action.specs.declared.query.Query.TheVariants.{Keys as KeysOf};
 ghost use Rattle.cg_db.specs.Find.{answer};
 ghost use Rattle.cg_action.specs.declared.answer.Answer.TheVariants.{Keys};
-ghost use Rattle.cg_records.specs.Limits.{Each};
+ghost use Rattle.cg_base.specs.Lists.{Each};
 ghost use Rattle.cg_client.specs.Queries.{behind};
 ghost use Rattle.cg_client.specs.Overlay.{with_key, with_command, with_commands, with_action, named_part, has_key, with_mark, merged_keys, answer_with};
 

@@ -4,7 +4,7 @@ ghost use Rattle.std.specs.Option.{option_copied};
 ghost use Rattle.cg_base.specs.Text.{is_nil};
 ghost use Rattle.cg_action.specs.ActionLimits.{IsAction};
 ghost use Rattle.cg_queue.specs.Queue.{names_of};
-ghost use Rattle.cg_records.specs.Limits.{Each};
+ghost use Rattle.cg_base.specs.Lists.{Each};
 
 use crate::fifo::Fifo;
 use cg_action::Action;
@@ -33,7 +33,7 @@ impl Model for Own {
     ghost use Rattle.cg_action.specs.declared.action.Action.{Action};
     ghost use Rattle.cg_action.specs.ActionLimits.{IsAction};
     ghost use Rattle.cg_queue.specs.Queue.{names_of};
-    ghost use Rattle.cg_records.specs.Limits.{Each};
+    ghost use Rattle.cg_base.specs.Lists.{Each};
 
     ghost Value = { List Action };
 

@@ -4,11 +4,11 @@ ghost use Rattle.std.specs.Option.{option_copied};
 ghost use Rattle.cg_base.specs.declared.limits.TheConstants.{COUNT_LIMIT};
 ghost use Rattle.cg_base.specs.Cuts.{index_in};
 ghost use Rattle.cg_base.specs.Ids.{names};
-ghost use Rattle.cg_base.specs.Lists.{at_place};
+ghost use Rattle.cg_base.specs.Lists.{at_place, Each};
 ghost use Rattle.cg_action.specs.ActionLimits.{IsAction};
 ghost use Rattle.cg_db.specs.Limits.{AreEntries};
 ghost use Rattle.cg_db.specs.Ascending.{Ascends};
-ghost use Rattle.cg_records.specs.Limits.{Each, IsNumber, IsSmallCut, IsPrimary, IsMaybeVulnerable};
+ghost use Rattle.cg_records.specs.Limits.{IsNumber, IsSmallCut, IsPrimary, IsMaybeVulnerable};
 ghost use Rattle.cg_queue.specs.Queue.{action_of, green_count, names_of};
 ghost use Rattle.cg_client.specs.Replica.{created};
 

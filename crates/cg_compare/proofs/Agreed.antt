@@ -29,7 +29,7 @@ all_same id (s ∷ more) e =
     let split = by_test (same_id id s.id) s (find (λ t. not (same_id id t.id)) more) e in
     (sym (same_id-is id s.id split.0), all_same id more split.1)
 
-none_mapped : {X Y : Type 0} (f : X → Y) (o : Option X) → option_map f o ≡ None → o ≡ None
+pub none_mapped : {X Y : Type 0} (f : X → Y) (o : Option X) → option_map f o ≡ None → o ≡ None
 none_mapped f None e = refl
 none_mapped f (Some x) e = absurd (some_is_none e)
 

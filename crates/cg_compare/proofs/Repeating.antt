@@ -17,7 +17,7 @@ use Rattle.cg_compare.specs.Places.{seen_at, last_place, places_of}
 use Rattle.cg_compare.specs.Join.{first_difference, first_name, covered, name_in, stands_at, earlier_place, repeat_at, first_repeat}
 use Rattle.cg_compare.proofs.First.{some_is_none, true_is_false, first_has, found_is, none_passes}
 use Rattle.cg_compare.proofs.Seeing.{seen_first, seen_within}
-use Rattle.cg_compare.proofs.Agreed.{no_difference_at, one_name, seen_is_told}
+use Rattle.cg_compare.proofs.Agreed.{no_difference_at, one_name, seen_is_told, none_mapped}
 use Rattle.cg_compare.proofs.OneOrder.{covered_at, in_cell, no_repeat}
 
 -- ---- the names at the places
@@ -78,10 +78,6 @@ with_name : (list : List (Option ActionId)) (place : ℕ) (j : Joined) (o : Opti
     Repeated list place j
 with_name list place j None name e = absurd (some_is_none (sym e))
 with_name list place j (Some id) name e = with_earlier list place j id (earlier_place list place id) name refl e
-
-none_mapped : {X Y : Type 0} (f : X → Y) (o : Option X) → option_map f o ≡ None → o ≡ None
-none_mapped f None e = refl
-none_mapped f (Some x) e = absurd (some_is_none e)
 
 -- where a name isn't repeated at a place, it stands at no earlier one
 pub not_repeated : (list : List (Option ActionId)) (p q : ℕ) (id : ActionId) → repeat_at list q ≡ None → 1 ≤ p → p < q →

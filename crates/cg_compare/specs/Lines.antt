@@ -2,6 +2,7 @@
 use Rattle.std.specs.Prelude.{ℕ, ◌-◌, Bool, List, [], ◌∷◌, ◌++◌, Option, Some, None, Result, Ok, Err, codes, drop, find, length, take, if◌then◌else◌}
 use Rattle.std.specs.Option.{option_and_then, option_map_or}
 use Rattle.std.specs.Str.{is_utf8}
+use Rattle.cg_base.specs.Ascii.{COMMA, COLON}
 use Rattle.cg_base.specs.declared.limits.TheConstants.{COUNT_LIMIT}
 use Rattle.cg_base.specs.declared.action_id.ActionId.{ActionId}
 use Rattle.cg_base.specs.Text.{pieces_of}
@@ -58,7 +59,7 @@ id_of (creator ∷ index ∷ piece ∷ pieces) = None
 
 -- the name of an action that bytes spell: its creator, a colon, and its index
 abbrev pub read_id : List ℕ → Option ActionId
-read_id bytes = id_of (pieces_of 58 bytes)
+read_id bytes = id_of (pieces_of COLON bytes)
 
 -- the names that pieces spell after those that were read, where each spells one
 abbrev pub each_id : List ActionId → List (List ℕ) → Option (List ActionId)
@@ -68,7 +69,7 @@ each_id ids (piece ∷ pieces) = option_and_then (λ id. each_id (ids ++ id ∷ 
 -- names with a comma between two, or none
 abbrev pub ids_within : List ℕ → Option (List ActionId)
 ids_within [] = Some []
-ids_within (b ∷ bytes) = each_id [] (pieces_of 44 (b ∷ bytes))
+ids_within (b ∷ bytes) = each_id [] (pieces_of COMMA (b ∷ bytes))
 
 -- what stands after the bracket that begins the bytes, and what before the one that ends them
 abbrev pub after_bracket : List ℕ → Option (List ℕ)

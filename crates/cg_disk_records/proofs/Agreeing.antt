@@ -11,7 +11,7 @@ use Rattle.std.proofs.lemmas.Bool.{eqb-true, eqb-false, ltb-true, and_parts, and
 use Rattle.cg_base.specs.declared.action_id.ActionId.{ActionId}
 use Rattle.cg_base.specs.Ids.{same_id, names}
 use Rattle.cg_base.specs.Cuts.{index_in, raise, with_top}
-use Rattle.cg_base.specs.Lists.{count_up, above_up_to}
+use Rattle.cg_base.specs.Lists.{count_up, above_up_to, Each}
 use Rattle.cg_base.specs.Sets.{IsId}
 use Rattle.cg_base.specs.Replicas.{every_replica}
 use Rattle.cg_base.specs.SetLaws.{each-replica}
@@ -21,7 +21,7 @@ use Rattle.cg_queue.specs.Distinct.{is_distinct}
 use Rattle.cg_queue.specs.Queue.{green_count, names_of}
 use Rattle.cg_client.specs.Replica.{last_index, created}
 use Rattle.cg_client.specs.OwnLaws.{last_index-get}
-use Rattle.cg_records.specs.Limits.{Each, IsIndex, IsName}
+use Rattle.cg_records.specs.Limits.{IsIndex, IsName}
 use Rattle.cg_disk_records.specs.declared.checkpoint.Checkpoint.{Checkpoint}
 use Rattle.cg_disk_records.specs.Limits.{AreParts}
 use Rattle.cg_disk_records.specs.Parts.{next_index, red_cut_of, queue_in, stored_in, Fits, is_between_cuts, greens_agree, yellow_agrees, do_agree}

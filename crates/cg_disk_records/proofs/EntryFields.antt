@@ -29,7 +29,7 @@ use Rattle.cg_db.specs.Limits.{AreEntries}
 use Rattle.cg_db.specs.View.{entry_at}
 use Rattle.cg_db.specs.EntryLaws.{found_all}
 use Rattle.cg_db.specs.TextOrderLaws.{same-sym, before-trans, before-back, before-apart}
-use Rattle.cg_records.specs.Limits.{Each}
+use Rattle.cg_base.specs.Lists.{Each}
 use Rattle.cg_disk_records.specs.Checkpoint.{spelled_entry}
 use Rattle.cg_disk_records.specs.Limits.{IsDatabase}
 use Rattle.cg_disk_records.specs.Reading.{last_key, key_behind_reading, entry_reading, entries_reading}

@@ -16,7 +16,7 @@ use Rattle.cg_action.specs.Bytes.{spelled_action}
 use Rattle.cg_action.specs.Reading.{id_reading, action_reading}
 use Rattle.cg_action.specs.ValueLaws.{id_field}
 use Rattle.cg_action.specs.KindLaws.{action_field}
-use Rattle.cg_records.specs.Limits.{Each}
+use Rattle.cg_base.specs.Lists.{Each}
 use Rattle.cg_disk_records.specs.Kept.{spelled_next}
 use Rattle.cg_disk_records.specs.Limits.{IsShort, AreActions}
 use Rattle.cg_disk_records.specs.Reading.{actions_reading, ids_reading}

@@ -8,7 +8,7 @@ use Rattle.std.proofs.lemmas.Option.{none-some}
 use Rattle.cg_base.specs.declared.action_id.ActionId.{ActionId}
 use Rattle.cg_base.specs.Cuts.{index_in, raise, creators_in}
 use Rattle.cg_base.specs.Ids.{id_before}
-use Rattle.cg_base.specs.Lists.{count_up, above_up_to}
+use Rattle.cg_base.specs.Lists.{count_up, above_up_to, Each}
 use Rattle.cg_base.specs.ListLaws.{length-count_up}
 use Rattle.cg_base.specs.Sets.{IsId, Ascends, has}
 use Rattle.cg_base.specs.SetLaws.{each-replica}
@@ -19,7 +19,6 @@ use Rattle.cg_members.specs.Servers.{is_among}
 use Rattle.cg_members.specs.Laws.{NoLineAbove}
 use Rattle.cg_queue.specs.Queue.{names_of, green_count}
 use Rattle.cg_records.specs.declared.stable.Stable.{Stable}
-use Rattle.cg_records.specs.Limits.{Each}
 use Rattle.cg_client.specs.Replica.{created}
 use Rattle.cg_disk_records.specs.Stored.{Stored, whiten}
 use Rattle.cg_disk_records.specs.declared.change.Change.{Change}

@@ -15,7 +15,8 @@ use Rattle.cg_members.specs.declared.server.Server.{Server}
 use Rattle.cg_members.specs.Members.{Members}
 use Rattle.cg_members.specs.Listed.{server_ids, Count, AreServers}
 use Rattle.cg_members.specs.Servers.{with_server}
-use Rattle.cg_records.specs.Limits.{IsNumber, Each}
+use Rattle.cg_base.specs.Lists.{Each}
+use Rattle.cg_records.specs.Limits.{IsNumber}
 use Rattle.cg_records.specs.Bytes.{spelled_set}
 use Rattle.cg_records.specs.Reading.{take_number, take_id_above, take_weight, last_of, take_set}
 use Rattle.cg_records.specs.RecordLaws.{Follows, IsWeight, id_field, weight_field, number_field, set_field, map-push, last_of-push}

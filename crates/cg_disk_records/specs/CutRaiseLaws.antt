@@ -129,7 +129,7 @@ behind-raised cut (x ∷ ids) id = ap (λ c. cut_behind c ids) (raise-commute cu
 
 -- ---- cuts by creator
 
-index-before : (cut : List ActionId) (low p : ℕ) → Rising low cut → p < low → index_in cut p ≡ 0
+pub index-before : (cut : List ActionId) (low p : ℕ) → Rising low cut → p < low → index_in cut p ≡ 0
 index-before [] low p rising lt = refl
 index-before (t ∷ cut) low p rising lt =
     let above : low ≤ t.creator = rising.0 in

@@ -17,9 +17,8 @@ use Rattle.cg_base.specs.IdLaws.{same_id-true, same_id-false, same_name}
 use Rattle.cg_disk_records.specs.CutRaiseLaws.{rising-raise, index-same, raise-below}
 use Rattle.cg_disk_records.specs.RunMarkLaws.{run-head, run-rest, lacks, run-other, without, inserted}
 use Rattle.std.specs.Option.{unwrap_or, option_to_list}
-use Rattle.cg_base.specs.Lists.{lesser, least_of}
+use Rattle.cg_base.specs.Lists.{lesser, least_of, Each}
 use Rattle.cg_members.specs.declared.server.Server.{Server}
-use Rattle.cg_records.specs.Limits.{Each}
 
 pub names-with_red : (reds : List Action) (a : Action) → names_of (with_red reds a) ≡ inserted (names_of reds) a.id
 names-with_red [] a = refl

@@ -107,7 +107,7 @@ yellowed h id is le =
 
 -- ---- own actions
 
-mine-behind : (me : ℕ) (own : List Action) (a : Action) → are_of me own ≡ true → a.id.creator ≡ me →
+pub mine-behind : (me : ℕ) (own : List Action) (a : Action) → are_of me own ≡ true → a.id.creator ≡ me →
     are_of me (own ++ a ∷ []) ≡ true
 mine-behind me [] a mine of_me = and_from (a.id.creator == me) true (eq-eqb a.id.creator me of_me) refl
 mine-behind me (b ∷ own) a mine of_me =
@@ -140,7 +140,7 @@ holds-made h a owed mine next is =
 
 -- ---- the white count
 
-dropped : (n : ℕ) (xs : List Action) → n ≤ length xs → n + length (drop n xs) ≡ length xs
+pub dropped : (n : ℕ) (xs : List Action) → n ≤ length xs → n + length (drop n xs) ≡ length xs
 dropped zero xs le = omega arith
 dropped (suc n) [] le = absurd (omega arith)
 dropped (suc n) (x ∷ xs) le = let rest = dropped n xs (omega arith) in omega arith

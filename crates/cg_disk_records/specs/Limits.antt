@@ -10,7 +10,8 @@ use Rattle.cg_db.specs.Limits.{AreEntries}
 use Rattle.cg_members.specs.Members.{Members}
 use Rattle.cg_members.specs.Listed.{AreServers}
 use Rattle.cg_queue.specs.Queue.{QueueView, green_count}
-use Rattle.cg_records.specs.Limits.{Each, IsNumber, IsSmallCut, IsStable}
+use Rattle.cg_base.specs.Lists.{Each}
+use Rattle.cg_records.specs.Limits.{IsNumber, IsSmallCut, IsStable}
 use Rattle.cg_disk_records.specs.declared.change.Change.{Change}
 use Rattle.cg_disk_records.specs.declared.checkpoint.Reached.{Reached}
 use Rattle.cg_disk_records.specs.declared.checkpoint.KeptActions.{KeptActions}

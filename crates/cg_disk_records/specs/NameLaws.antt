@@ -7,7 +7,8 @@ use Rattle.cg_base.specs.CutLaws.{AreNames}
 use Rattle.cg_action.specs.declared.action.Action.{Action}
 use Rattle.cg_action.specs.ActionLimits.{IsAction}
 use Rattle.cg_queue.specs.Queue.{names_of}
-use Rattle.cg_records.specs.Limits.{Each, IsIndex, IsSmallCut}
+use Rattle.cg_base.specs.Lists.{Each}
+use Rattle.cg_records.specs.Limits.{IsIndex, IsSmallCut}
 
 -- a cut whose indexes have bytes is one
 pub small-cut : (cut : List ActionId) → IsSmallCut cut → IsCut cut

@@ -2,7 +2,8 @@ ghost use Rattle.std.specs.Prelude.{◌≡◌, ◌++◌, ◌+◌, ◌<◌, IsTru
 ghost use Rattle.cg_base.specs.declared.limits.TheConstants.{LIST_LIMIT};
 ghost use Rattle.cg_base.specs.Fronts.{KeepsFront};
 ghost use Rattle.cg_action.specs.ActionLimits.{IsAction, IsActionId};
-ghost use Rattle.cg_records.specs.Limits.{Each, IsStable};
+ghost use Rattle.cg_base.specs.Lists.{Each};
+ghost use Rattle.cg_records.specs.Limits.{IsStable};
 ghost use Rattle.cg_disk_records.specs.Change.{spelled_change};
 ghost use Rattle.cg_disk_records.specs.Limits.{IsChange};
 ghost use Rattle.cg_disk_records.specs.Following.{change_with};

@@ -4,7 +4,7 @@ ghost use Rattle.std.specs.Prelude.{◌≡◌, ◌++◌, flat_map, OnOk, OnErr};
 ghost use Rattle.cg_base.specs.Fronts.{KeepsFront};
 ghost use Rattle.cg_codec.specs.Fields.{list, spelled_id};
 ghost use Rattle.cg_codec.specs.Taking.{unread_of, TakesWithMemory};
-ghost use Rattle.cg_records.specs.Limits.{Each};
+ghost use Rattle.cg_base.specs.Lists.{Each};
 ghost use Rattle.cg_action.specs.ActionLimits.{IsAction, IsActionId};
 ghost use Rattle.cg_action.specs.Bytes.{spelled_action};
 ghost use Rattle.cg_disk_records.specs.Limits.{IsShort, AreActions};

@@ -20,12 +20,10 @@ use Rattle.cg_engine.specs.Ending.{MaySave, MayGoOn, up, saved, Checkpoints, Sav
 use Rattle.cg_engine.specs.declared.answers.Handled.{Handled}
 use Rattle.cg_engine.specs.declared.answers.Handled.TheVariants as handled
 use Rattle.cg_engine.specs.declared.wreck.LastEvent.{LastEvent}
+use Rattle.cg_store.specs.EndingLaws.{whether_true}
 
 chosen : (b : Bool) (A B : Type 0) → b ≡ true → Either b A B → A
 chosen b A B is one = subst (λ x. Either x A B) is one
-
-as_chosen : (b : Bool) (A B : Type 0) → b ≡ true → A → Either b A B
-as_chosen b A B is one = subst (λ x. Either x A B) (sym is) one
 
 -- the white count rises as the definitions say
 whitened_is : (r : Replica) → white_in r ≡ whitened r
@@ -50,12 +48,12 @@ module _ {D : Type 0} (view : D → DiskView) (k : StoreState D) where
     pub saved_as : (a : Result (StoreState D) (CommitErr D)) → nat_lt size_limit w.size ≡ true → Moves view k w (checkpointed w) a → EachMoment view (λ s. s.disk) (IsEither k.id w (checkpointed w)) (view k.disk) a →
         result ≡ saved a r o k.id last → Saves view k w r o last result
     saved_as a long moves moments is =
-        as_chosen (nat_lt size_limit w.size) (Checkpoints view k w r o last result) (result ≡ handled.Running (up k r) o) long
+        whether_true (nat_lt size_limit w.size) (Checkpoints view k w r o last result) (result ≡ handled.Running (up k r) o) long
         (record { answer = a; moves = moves; moments = moments; is = is })
 
     pub goes_on_as : o.written ≡ true → (white : Replica) → white ≡ white_in r → Saves view k w white o last result → GoesOn view k w r o last result
     goes_on_as written white same saves =
-        as_chosen o.written (Saves view k w (whitened r) o last result) (result ≡ handled.Running (up k r) o) written
+        whether_true o.written (Saves view k w (whitened r) o last result) (result ≡ handled.Running (up k r) o) written
         (subst (λ (x : Replica). Saves view k w x o last result) (whitened_is r) (subst (λ (x : Replica). Saves view k w x o last result) same saves))
 
   module _ (r : Replica) (written : Bool) (may : (w : OnDisk) → Stands k.id (view k.disk).reads w → MayGoOn written k.unwritten w r.held) (is : written ≡ true) where

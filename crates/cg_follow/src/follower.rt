@@ -76,7 +76,7 @@ impl<D: Disk> Follower<D> {
     ghost use Rattle.cg_disk.specs.View.{IsAtRest};
     ghost use Rattle.cg_journal.specs.Opens.{no_records};
     ghost use Rattle.cg_journal.specs.Records.{records};
-    ghost use Rattle.cg_records.specs.Limits.{Each};
+    ghost use Rattle.cg_base.specs.Lists.{Each};
     ghost use Rattle.cg_follow.specs.Answers.{Begins, Makes, Takes, Feeds, EachMoment, Resumes, OpensFollower};
     ghost use Rattle.cg_follow.specs.Bytes.{feed_in};
     ghost use Rattle.cg_follow.specs.Followed.{fed};

@@ -6,7 +6,7 @@ ghost use Rattle.cg_codec.specs.Reading.{whole};
 ghost use Rattle.cg_codec.specs.Taking.{unread_of, Takes, TakesWithMemory, Decodes};
 ghost use Rattle.cg_action.specs.ActionLimits.{IsAction};
 ghost use Rattle.cg_db.specs.Limits.{AreEntries};
-ghost use Rattle.cg_records.specs.Limits.{Each};
+ghost use Rattle.cg_base.specs.Lists.{Each};
 ghost use Rattle.cg_disk_records.specs.Limits.{AreActions, IsDatabase};
 ghost use Rattle.cg_follow.specs.Bytes.{spelled_follower, spelled_feed, cursor_reading, follower_reading, feed_reading, follower_in, feed_in};
 

@@ -1,6 +1,6 @@
 ghost use Rattle.std.specs.Prelude.{◌≡◌, OnOk};
 ghost use Rattle.cg_action.specs.ActionLimits.{IsAction};
-ghost use Rattle.cg_records.specs.Limits.{Each};
+ghost use Rattle.cg_base.specs.Lists.{Each};
 ghost use Rattle.cg_follow.specs.Followed.{applied};
 
 use cg_action::Action;

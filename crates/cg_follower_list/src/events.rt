@@ -4,7 +4,7 @@ ghost use Rattle.std.specs.Prelude.{◌≡◌, None, IfOk};
 ghost use Rattle.std.specs.Option.{option_to_list};
 ghost use Rattle.cg_action.specs.ActionLimits.{IsAction};
 ghost use Rattle.cg_db.specs.Limits.{AreEntries};
-ghost use Rattle.cg_records.specs.Limits.{Each};
+ghost use Rattle.cg_base.specs.Lists.{Each};
 ghost use Rattle.cg_follower_list.specs.Life.{Up};
 ghost use Rattle.cg_follower_list.specs.Followers.{answers, becomes, changes_to, feeding, follower_down, follower_up, stopping, taken_by};
 ghost use Rattle.cg_follower_list.specs.Seen.{seen};

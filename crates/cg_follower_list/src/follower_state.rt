@@ -3,7 +3,7 @@
 ghost use Rattle.std.specs.Prelude.{◌≡◌, true, false, Some, None, IfOk};
 ghost use Rattle.cg_action.specs.ActionLimits.{IsAction};
 ghost use Rattle.cg_db.specs.Find.{answer};
-ghost use Rattle.cg_records.specs.Limits.{Each};
+ghost use Rattle.cg_base.specs.Lists.{Each};
 ghost use Rattle.cg_follower_list.specs.Life.{Up};
 ghost use Rattle.cg_follower_list.specs.Followers.{cursor_in, is_up, taken_by, feeding, stopping};
 ghost use Rattle.cg_follower_list.specs.Seen.{seen};

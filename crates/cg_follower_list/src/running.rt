@@ -8,7 +8,7 @@ ghost use Rattle.cg_disk.specs.Model.{state_of};
 ghost use Rattle.cg_disk.specs.State.{left_by};
 ghost use Rattle.cg_follow.specs.Followed.{Followed};
 ghost use Rattle.cg_follow.specs.Stands.{Stands};
-ghost use Rattle.cg_records.specs.Limits.{Each};
+ghost use Rattle.cg_base.specs.Lists.{Each};
 ghost use Rattle.cg_follower_list.specs.Followers.{after_feed};
 ghost use Rattle.cg_follower_list.specs.Life.{Fallen};
 ghost use Rattle.cg_follower_list.specs.Seen.{seen};

@@ -2,6 +2,7 @@
 use Rattle.std.specs.Prelude.{ℕ, zero, suc, ◌+◌, ◌*◌, ◌/◌, ◌%◌, ◌^◌, ◌==◌, nat_lt, ◌||◌, Bool, List, [], ◌∷◌, length, filter, find, slice_get, pos, Some, None, if◌then◌else◌}
 use Rattle.std.specs.List.{insert, prefix_len}
 use Rattle.std.specs.Option.{option_map_or, unwrap_or}
+use Rattle.cg_base.specs.Ascii.{ZERO}
 use Rattle.cg_base.specs.Lists.{count_up}
 use Rattle.cg_base.specs.Sets.{has, with_member, without_member, union, common, least}
 use Rattle.cg_base.specs.Weights.{each_once}
@@ -68,7 +69,7 @@ cell_of cells p = unwrap_or (find (λ cell. has cell p) cells) []
 
 -- a letter and a digit: the keys k0 to k7 are of counters, t0 to t7 of settings
 abbrev pub name : ℕ → ℕ → List ℕ
-name letter n = letter ∷ (48 + n) ∷ []
+name letter n = letter ∷ (ZERO + n) ∷ []
 
 unfoldable pub increment : ℕ → Drawing Event
 increment replicas = do

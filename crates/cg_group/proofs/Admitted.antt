@@ -3,13 +3,13 @@ use Rattle.std.proofs.Common.{◌≡◌, ℕ, ◌<◌, ◌≤◌, ◌⊎◌, Boo
 use Rattle.std.specs.Prelude.{◌==◌}
 use Rattle.std.specs.List.{list_any}
 use Rattle.std.proofs.lemmas.Bool.{cases_Bool, cond-true, cond-false, eqb-false, and_from, or_cases, or_left, or_right, not_from_false, not-false, not-true, cases_lt}
-use Rattle.cg_base.specs.Lists.{first_some}
+use Rattle.cg_base.specs.Lists.{first_some, Each}
 use Rattle.cg_base.specs.Sets.{has, same_set, is_within}
 use Rattle.cg_group.specs.declared.reason.Reason.{Reason}
 use Rattle.cg_group.specs.State.{Standing, GroupState, standing_of, phase_of, delivered_to, regular_in, is_up, is_regular}
 use Rattle.cg_group.specs.Refusals.{any_of, not_up, not_regular, not_one_configuration, still_regular, not_together, is_together, left_together}
 use Rattle.cg_group.specs.Events.{furthest}
-use Rattle.cg_group.specs.EachLaws.{Each, Each-at, Each-has}
+use Rattle.cg_group.specs.EachLaws.{Each-at, Each-has}
 use Rattle.cg_group.specs.RefusalLaws.{first_none, refuse_none}
 
 first_none_each : {X : Type 0} (test : ℕ → Option X) (set : List ℕ) → first_some (map test set) ≡ None → Each (λ q. test q ≡ None) set

@@ -5,14 +5,14 @@ use Rattle.std.specs.Option.{option_map_or}
 use Rattle.std.proofs.lemmas.Bool.{cases_Bool, cases_eq, cond-true, cond-false, ne_eqb, eqb-false, and_parts, and_right}
 use Rattle.std.proofs.lemmas.List.{map-append}
 use Rattle.std.proofs.lemmas.List.Elements.{filter-append}
-use Rattle.cg_base.specs.Lists.{above_up_to}
+use Rattle.cg_base.specs.Lists.{above_up_to, Each}
 use Rattle.cg_group.specs.declared.phase.Phase.{Phase}
 use Rattle.cg_group.specs.declared.phase.Phase.TheVariants.{Down, Regular}
 use Rattle.cg_group.specs.State.{Configuration, Standing, Sent, GroupState, standing_of, configuration, phase_of, delivered_to, unordered_of, home, regular_in, set_standing, set_configuration}
 use Rattle.cg_group.specs.Events.{send_from, send, with_receipt, with_message, order_from, order, receive, order_all, receive_all, gather, regulars}
 use Rattle.cg_group.specs.History.{Diary}
 use Rattle.cg_group.specs.Synchrony.{Begins, ordered_from}
-use Rattle.cg_group.specs.EachLaws.{Each, Each-above}
+use Rattle.cg_group.specs.EachLaws.{Each-above}
 use Rattle.cg_group.proofs.Picture.{Holds, conf_in}
 use Rattle.cg_group.specs.GrownLaws.{Grows, ordered-receipt, level-receipt, Grows-receipt, level-message, ordered-message, Grows-message}
 use Rattle.cg_group.specs.LookupLaws.{put, put-own, put-other, put-same, phase_of-set, delivered_to-set, unordered_of-set, configuration-set_standing, configurations-set_standing, standing_of-set_configuration, configuration-set, count-set_configuration, set_configuration-zero, standing_id}

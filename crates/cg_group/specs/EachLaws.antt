@@ -1,14 +1,10 @@
 -- What holds of each element of a list, by recursion; and lists made from it.
 use Rattle.std.proofs.Common.{◌≡◌, ℕ, zero, suc, ◌+◌, ◌-◌, ◌<◌, ◌≤◌, Bool, true, false, ◌||◌, List, [], ◌∷◌, ◌++◌, filter, flat_map, refl, sym, ap₂, arith, subst, eq-eqb, eqb-true, true≢false, ⊎_elim}
 use Rattle.std.specs.List.{list_any, list_all}
-use Rattle.cg_base.specs.Lists.{count_up, above_up_to}
+use Rattle.cg_base.specs.Lists.{count_up, above_up_to, Each}
 use Rattle.std.specs.Prelude.{◌==◌}
 use Rattle.cg_base.specs.Sets.{has}
 use Rattle.std.proofs.lemmas.Bool.{cond_both, and_parts, and_from, or_right, or_cases}
-
-abbrev pub Each : {X : Type 0} → (X → Type 0) → List X → Type 0
-Each P [] = Unit {0}
-Each P (x ∷ xs) = P x × Each P xs
 
 module _ {X : Type 0} where
   pub Each-weaker : (P Q : X → Type 0) → ((x : X) → P x → Q x) → (xs : List X) → Each P xs → Each Q xs

@@ -8,13 +8,13 @@ use Rattle.std.proofs.lemmas.List.Elements.{filter-append}
 use Rattle.std.proofs.lemmas.List.Concat.{flat_map-append}
 use Rattle.std.proofs.lemmas.List.Sums.{prefix_len-le-length}
 use Rattle.std.proofs.lemmas.Bool.{cond_both, false_from_ne_true, cases_eq, cond-true, cond-false, ne_eqb}
-use Rattle.cg_base.specs.Lists.{count_up, above_up_to, at_place}
+use Rattle.cg_base.specs.Lists.{count_up, above_up_to, at_place, Each}
 use Rattle.cg_base.specs.Sets.{has}
 use Rattle.cg_group.specs.declared.delivery.Delivery.TheVariants.{Message}
 use Rattle.cg_group.specs.State.{Configuration, Sent, has_received}
 use Rattle.cg_group.specs.Ready.{all_received, ready_in}
 use Rattle.cg_group.specs.Events.{delivery_at, deliveries_at, transitional_places}
-use Rattle.cg_group.specs.EachLaws.{Each, Each-weaker, Each-filter, Each-above, flat_map_same, filter_same, filter_none, list_any_same, list_all_kept_by, list_any_nowhere, Each-all, Each-has, Each-at, Each-list_all, above_up_to-add}
+use Rattle.cg_group.specs.EachLaws.{Each-weaker, Each-filter, Each-above, flat_map_same, filter_same, filter_none, list_any_same, list_all_kept_by, list_any_nowhere, Each-all, Each-has, Each-at, Each-list_all, above_up_to-add}
 use Rattle.cg_base.specs.ListLaws.{length-count_up}
 
 -- the elements of a front of those that pass do pass

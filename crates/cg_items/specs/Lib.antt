@@ -12,3 +12,4 @@ pub mod SessionsAgree
 pub mod FollowersAgree
 pub mod RelaxedAgree
 pub mod LogsShown
+pub mod ItemLaws

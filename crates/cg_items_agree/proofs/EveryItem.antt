@@ -34,14 +34,16 @@ use Rattle.cg_items.specs.Refused.{Refused, OfFurther}
 use Rattle.cg_items.specs.RelaxedAgree.{KnowSame, RelaxedAgree, known_by, relaxed_due, relaxed_event_of, relaxed_shown}
 use Rattle.cg_items.specs.Relaxing.{known_cut, relaxed_lines, relaxed_refusal, unknown_or_down}
 use Rattle.cg_items_agree.specs.EveryRelaxed.{RelaxedOfEveryRunAgree}
-use Rattle.cg_items_agree.proofs.NotedItems.{IsNotedIn, is_relaxed, kept-rows, kind-kept, noted-at, others-ask, others-noted, others-refuse, relaxed-noted, relaxed-taken, shown-alone, shown_of, steps-append}
+use Rattle.cg_items_agree.proofs.NotedItems.{IsNotedIn, is_relaxed, kept-rows, kind-kept, noted-at, others-ask, others-noted, others-refuse, relaxed-noted, relaxed-taken, shown-alone, shown_of}
 use Rattle.cg_items_agree.proofs.KnownActions.{Knows, knows}
 use Rattle.cg_items_agree.proofs.KnownCells.{both-cell, one-cell}
 use Rattle.cg_items_agree.proofs.KnownNames.{same-times}
 use Rattle.cg_items_agree.proofs.MadeNames.{own-later}
 use Rattle.cg_items_agree.proofs.MadeRows.{rows_of}
-use Rattle.cg_items_agree.proofs.RelaxedRun.{IsBeside, beside-run, front-run}
+use Rattle.cg_items_agree.proofs.RelaxedRun.{IsBeside, beside-run}
 use Rattle.cg_items_agree.proofs.SameCells.{same-cells}
+use Rattle.cg_items.specs.ItemLaws.{steps-append}
+use Rattle.cg_model.specs.RunLaws.{front-run}
 
 some-of : {X : Type 0} (x : X) → None ≡ Some x → ⊥
 some-of x e = cc

@@ -22,24 +22,17 @@ use Rattle.cg_items.specs.Refused.{Refused}
 use Rattle.cg_items.specs.OfRun.{IsFirst, AreOfRun}
 use Rattle.cg_items.specs.AfterItems.{ItemAfter, world_behind, order_behind}
 use Rattle.cg_items.specs.FollowersAgree.{FollowersAgree, IsOfOrder, follow_event_of, follow_lines, follow_due, cursor_shown, followers_in, followers_behind, at_cursor, left_by, told_follow_refusal}
-use Rattle.cg_items_agree.proofs.FollowersElements.{present-append}
+use Rattle.cg_base.specs.ElementLaws.{present-append}
 use Rattle.cg_items_agree.proofs.OrderActions.{ordered-more, order-longer}
 use Rattle.cg_items_agree.proofs.ItemParts.{is_following, MayKeep, IsOther, IsOwn, kind-kept, is-followers, parts-of, kept-last, noted-there, lines-of}
 use Rattle.cg_items_agree.proofs.FollowersTold.{Told, told_of, told_behind, told-last}
 use Rattle.cg_items_agree.proofs.LifeTold.{LifeAs, KeptAs}
 use Rattle.cg_items_agree.proofs.FollowersEvents.{StandsSo, Keeps, Acts, event-acts}
 use Rattle.cg_items_agree.proofs.FollowersRefusals.{refusal-told}
+use Rattle.cg_items.specs.ItemLaws.{steps-append}
+use Rattle.cg_model.specs.RunLaws.{front-run}
 
 -- ---- steps
-
-steps-append : (xs ys : List Item) → steps_of (xs ++ ys) ≡ steps_of xs ++ steps_of ys
-steps-append xs ys =
-    ap (λ (os : List (Option Step)). present os) (map-append (λ (i : Item). i.step) xs ys)
-    ∙ present-append (map (λ (i : Item). i.step) xs) (map (λ (i : Item). i.step) ys)
-
-front-run : (w : World) (xs ys : List Step) → IsRunFrom w (xs ++ ys) → IsRunFrom w xs
-front-run w [] ys run = tt
-front-run w (s ∷ xs) ys run = (run.0, run.1, run.2, front-run s.world xs ys run.3)
 
 -- ---- a longer order
 

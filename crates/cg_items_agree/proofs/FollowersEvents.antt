@@ -28,12 +28,12 @@ use Rattle.cg_items.specs.Followers.{follow_refusal, follow_acts, would_go_back,
 use Rattle.cg_items.specs.Items.{Item, steps_of}
 use Rattle.cg_items.specs.AfterItems.{world_behind, order_behind, position_behind}
 use Rattle.cg_items.specs.FollowersAgree.{follow_due, left_by, at_cursor}
-use Rattle.cg_agree_lemmas.specs.MadeAlone.{not-refused}
 use Rattle.cg_items_agree.proofs.FollowerPlaces.{placed-there, others-there}
-use Rattle.cg_items_agree.proofs.MadeActions.{AreMade}
+use Rattle.cg_model.specs.MadeLaws.{AreMade}
 use Rattle.cg_items_agree.proofs.FollowersGreens.{HasGreens, made-is, next-count, next-feeds, reach-within}
 use Rattle.cg_items_agree.proofs.FollowersTold.{Told, told_of, told_behind, told-other, follower_of_event, AreOf}
 use Rattle.cg_items_agree.proofs.LifeTold.{come_due, feed_due, feed_left, anew, IsUpAs, IsFallenAs, KeptAs, Goes, IsDone, make-done, feed-done, stop-now, stop-later, recover-done, asked-goes}
+use Rattle.cg_group.specs.RefusalLaws.{refuse_none}
 
 -- ---- tests
 
@@ -198,7 +198,7 @@ module _ (earlier : List Item) (fs : List Follower) (stands : StandsSo (world_be
   not-back f q None kept e = let none = kept.0 in omega arith
   not-back f q (Some x) kept e =
       let same = kept.0 in
-      let test : nat_lt (green_count q) x.shown ≡ false = not-refused (nat_lt (green_count q) x.shown)
+      let test : nat_lt (green_count q) x.shown ≡ false = refuse_none (nat_lt (green_count q) x.shown)
       (WouldGoBack x.shown) e in
       let fewer : x.shown ≤ green_count q = ltb-false (green_count q) x.shown test in
       omega arith
@@ -249,7 +249,7 @@ module _ (earlier : List Item) (fs : List Follower) (stands : StandsSo (world_be
       sym (ap (λ (o : Option Replica). option_and_then (λ r. option_and_then (lacks r.held.queue) (life_at fs f)) o)
       there.is ∙ ap (option_and_then (lacks q)) life) ∙ fourth.0 in
       let behind : q.white ≤ now.cursor = ltb-false now.cursor q.white
-      (not-refused (nat_lt now.cursor q.white) (Discarded q.white) tested) in
+      (refuse_none (nat_lt now.cursor q.white) (Discarded q.white) tested) in
       let k : ℕ = min count (position_behind p earlier - (told f).cursor) in
       let next = next_greens q now.cursor count in
       let same : min count (green_count q - now.cursor) ≡ k = (let cursor = so.cursor in

@@ -11,7 +11,7 @@ use Rattle.cg_model.specs.Run.{Step}
 use Rattle.cg_model.specs.Shown.{order_of, ordered_actions, position_of, white_of}
 use Rattle.cg_follow.specs.Followed.{Followed, fed, applied, follower_of}
 use Rattle.cg_follower_list.specs.Followers.{next_greens}
-use Rattle.cg_items_agree.proofs.MadeActions.{AreMade}
+use Rattle.cg_model.specs.MadeLaws.{AreMade}
 use Rattle.cg_items_agree.proofs.OrderActions.{ordered-count, ordered-front}
 
 -- the lines told of the replica's position and white count, and what it has is the order's up to there

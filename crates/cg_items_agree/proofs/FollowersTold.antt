@@ -14,7 +14,7 @@ use Rattle.cg_follower_list.specs.declared.follow_line.FollowLine.TheVariants.{A
 use Rattle.cg_items.specs.declared.companion.FurtherLine.{FurtherLine}
 use Rattle.cg_items.specs.Items.{Item}
 use Rattle.cg_items.specs.FollowersAgree.{follow_event_of, follow_line, follow_lines, cursor_on, cursor_shown, up_on, up_shown, is_down_line, is_at_line, shows_down, shows_cursor, armed_behind, armed_on, left_by, left_from, left_on_disk}
-use Rattle.cg_items_agree.proofs.FollowersElements.{flat-append, present-append}
+use Rattle.cg_base.specs.ElementLaws.{flat-append, present-append}
 
 -- what was told: its last cursor, whether it was shown as up or as down, the stop that is armed, and what its last fall
 -- left

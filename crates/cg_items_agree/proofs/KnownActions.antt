@@ -4,7 +4,8 @@ use Rattle.std.specs.Prelude.{nat_lt, nat_le}
 use Rattle.std.specs.Option.{option_map_or}
 use Rattle.std.proofs.lemmas.Bool.{and_parts, and_from, or_cases, ltb-true, leb-true, lt-ltb, le-leb}
 use Rattle.std.proofs.lemmas.List.{map-append}
-use Rattle.cg_group.specs.EachLaws.{Each, Each-append, Each-list_all, Each-weaker}
+use Rattle.cg_base.specs.Lists.{Each}
+use Rattle.cg_group.specs.EachLaws.{Each-append, Each-list_all, Each-weaker}
 use Rattle.cg_base.specs.declared.action_id.ActionId.{ActionId}
 use Rattle.cg_base.specs.Ids.{names, same_id}
 use Rattle.cg_base.specs.IdLaws.{same_id-is, same_id-self}
@@ -41,15 +42,9 @@ use Rattle.cg_items_agree.proofs.LastLines.{IsLastLine, last-line}
 use Rattle.cg_items_agree.proofs.MadeNames.{known-own, made-names}
 use Rattle.cg_items_agree.proofs.RelaxedRun.{IsBeside}
 use Rattle.cg_items_agree.proofs.ShownReds.{AreLow, reds-low}
+use Rattle.cg_items_agree.proofs.SessionsHolding.{names-each}
 
 -- ---- lists
-
-names-each : (P : ActionId → Type 0) (ids : List ActionId) (id : ActionId) → Each P ids → names ids id ≡ true → P id
-names-each P [] id each named = absurd (let clash : false ≡ true = named in cc)
-names-each P (x ∷ ids) id each named = elim (or_cases (same_id id x) (names ids id) named) [
-  | inl here ↦ subst P (sym (same_id-is id x here)) each.0
-  | inr later ↦ names-each P ids id each.1 later
-]
 
 each-named : (ids : List ActionId) → Each (λ id. names ids id ≡ true) ids
 each-named [] = tt

@@ -11,7 +11,7 @@ use Rattle.cg_base.specs.Sets.{IsId}
 use Rattle.cg_action.specs.declared.action.Action.{Action}
 use Rattle.cg_queue.specs.Queue.{names_of}
 use Rattle.cg_disk_records.specs.Holds.{Rising, cut_behind}
-use Rattle.cg_disk_records.specs.CutRaiseLaws.{index-same, index-other, rising-raise}
+use Rattle.cg_disk_records.specs.CutRaiseLaws.{index-same, index-other, rising-raise, index-before}
 use Rattle.cg_model.specs.World.{no_world}
 use Rattle.cg_model.specs.Run.{Step, world_after}
 use Rattle.cg_model.specs.Shown.{made_action, made_from}
@@ -30,12 +30,6 @@ use Rattle.cg_items_agree.proofs.RelaxedRun.{IsBeside}
 
 -- ---- what two know together
 
-before : (cut : List ActionId) (low p : ℕ) → Rising low cut → p < low → index_in cut p ≡ 0
-before [] low p rising less = refl
-before (t ∷ cut) low p rising less =
-    let le = rising.0 in
-    cond-false (t.creator == p) t.index (index_in cut p) (ne_eqb t.creator p (λ e. absurd (omega arith))) ∙ before cut (suc t.creator) p rising.1 (omega arith)
-
 greatest-from : (c d : List ActionId) (low p : ℕ) → Rising 0 c → Rising low d →
     index_in (cut_behind c d) p ≡ max (index_in c p) (index_in d p)
 greatest-from c [] low p one other = (let same : index_in c p ≡ max (index_in c p) 0 = omega arith in same)
@@ -43,7 +37,7 @@ greatest-from c (t ∷ d) low p one other =
     let rest = greatest-from (raise c t) d (suc t.creator) p (rising-raise c t one) other.1 in
     elim (cases_eq t.creator p) [
       | inl here ↦
-          let none : index_in d p ≡ 0 = before d (suc t.creator) p other.1 (omega arith) in
+          let none : index_in d p ≡ 0 = index-before d (suc t.creator) p other.1 (omega arith) in
           let raised : index_in (raise c t) p ≡ max (index_in c p) t.index = index-same c t one p here in
           let first : index_in (t ∷ d) p ≡ t.index = cond-true (t.creator == p) t.index (index_in d p) (eq-eqb t.creator p here) in
           omega arith

@@ -3,9 +3,6 @@ mod SessionsLooking
 mod SessionsTold
 mod SessionsFollowing
 mod SessionsHolding
-mod TurnAlong
-mod EventRuns
-mod GreensBehind
 mod RepliesAt
 mod RepliesAscend
 mod SessionsBehind
@@ -17,13 +14,11 @@ mod SessionsWalk
 mod OtherCommands
 mod SessionsFields
 mod FollowersAgree
-mod FollowersElements
 mod FollowersEvents
 mod FollowerPlaces
 mod FollowersGreens
 mod ItemParts
 mod LifeTold
-mod MadeActions
 mod OrderActions
 mod FollowersRefusals
 mod FollowersTold

@@ -2,10 +2,10 @@
 use Rattle.std.proofs.Common.{◌≡◌, true, false, List, [], ◌∷◌, ◌++◌, map, flat_map, take, Option, Some, None, refl, sym, ap, ap₂, ◌∙◌, inl, inr, append_assoc, append-nil}
 use Rattle.std.proofs.lemmas.Bool.{cases_Bool, cond-true, cond-false, or_cases}
 use Rattle.std.proofs.lemmas.List.{map-append}
-use Rattle.cg_group.specs.EachLaws.{Each, Each-append}
+use Rattle.cg_group.specs.EachLaws.{Each-append}
 use Rattle.cg_base.specs.declared.action_id.ActionId.{ActionId}
 use Rattle.cg_base.specs.Ids.{same_id, names}
-use Rattle.cg_base.specs.Lists.{present}
+use Rattle.cg_base.specs.Lists.{present, Each}
 use Rattle.cg_base.specs.IdLaws.{same_id-is, same_id-back}
 use Rattle.cg_action.specs.declared.action.Action.{Action}
 use Rattle.cg_queue.specs.Queue.{names_of}
@@ -17,6 +17,7 @@ use Rattle.cg_model.specs.Agreement.{through, known_actions}
 use Rattle.cg_agree_lemmas.specs.BookGrows.{named_in}
 use Rattle.cg_agree_lemmas.specs.HandSays.{find-holds}
 use Rattle.cg_items_agree.proofs.SameCells.{AreOf}
+use Rattle.cg_model.specs.MadeLaws.{names-from}
 
 -- ---- each is the one of its name
 
@@ -37,17 +38,6 @@ known-own steps up =
     (made-own steps (take up.view.green_count (order_of steps))) (made-own steps (up.view.yellow.list ++ up.view.reds))
 
 -- ---- the names of what was made
-
-names-at : (steps : List Step) (made : List Made) → names_of (map (made_at steps) made) ≡ map (λ m. m.id) made
-names-at steps [] = refl
-names-at steps (m ∷ made) = ap (λ ids. m.id ∷ ids) (names-at steps made)
-
-pub names-from : (earlier steps : List Step) → names_of (made_from earlier steps) ≡ made_names steps
-names-from earlier [] = refl
-names-from earlier (s ∷ steps) =
-    map-append (λ (a : Action). a.id) (map (made_at (earlier ++ s ∷ [])) s.entry.made) (made_from (earlier ++ s ∷ []) steps)
-    ∙ ap₂ ◌++◌ (names-at (earlier ++ s ∷ []) s.entry.made) (names-from (earlier ++ s ∷ []) steps)
-    ∙ sym (map-append (λ (m : Made). m.id) s.entry.made (flat_map (λ (s : Step). s.entry.made) steps))
 
 -- a name that stands in a list is found there
 pub record IsFoundIn (list : List Action) (id : ActionId) : Type 0 where
@@ -94,14 +84,6 @@ made-names steps (id ∷ ids) each =
     ∙ ap₂ (λ (x : ActionId) (xs : List ActionId). x ∷ xs) is.name (made-names steps ids each.1)
 
 -- ---- one step more
-
-pub made-last : (before steps : List Step) (s : Step) → made_from before (through steps s) ≡ made_from before steps ++ map (made_at (through (before ++ steps) s)) s.entry.made
-made-last before [] s =
-    append-nil (map (made_at (through before s)) s.entry.made) ∙ ap (λ (xs : List Step). map (made_at (through xs s)) s.entry.made) (sym (append-nil before))
-made-last before (x ∷ steps) s =
-    ap (λ list. map (made_at (through before x)) x.entry.made ++ list) (made-last (through before x) steps s
-    ∙ ap (λ (xs : List Step). made_from (through before x) steps ++ map (made_at (through xs s)) s.entry.made) (append_assoc before (x ∷ []) steps))
-    ∙ sym (append_assoc (map (made_at (through before x)) x.entry.made) (made_from (through before x) steps) (map (made_at (through (before ++ x ∷ steps) s)) s.entry.made))
 
 -- what was made stays as it was made
 made-both : (before a b : List Step) → made_from before (a ++ b) ≡ made_from before a ++ made_from (before ++ a) b

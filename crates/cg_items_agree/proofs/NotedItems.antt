@@ -26,14 +26,6 @@ use Rattle.cg_items_agree.proofs.MadeRows.{rows_of}
 
 -- ---- items one behind the other
 
-pub steps-append : (xs ys : List Item) → steps_of (xs ++ ys) ≡ steps_of xs ++ steps_of ys
-steps-append [] ys = refl
-steps-append (x ∷ xs) ys = at x.step (steps-append xs ys) where
-  at : (o : Option Step) → steps_of (xs ++ ys) ≡ steps_of xs ++ steps_of ys →
-      present (o ∷ map (λ (i : Item). i.step) (xs ++ ys)) ≡ present (o ∷ map (λ (i : Item). i.step) xs) ++ steps_of ys
-  at None rest = rest
-  at (Some s) rest = ap (λ list. s ∷ list) rest
-
 world-next : (w : World) (o : Option Step) (items : List Item) →
     world_after (next_world w o) (steps_of items) ≡ world_after w (present (o ∷ map (λ (i : Item). i.step) items))
 world-next w None items = refl

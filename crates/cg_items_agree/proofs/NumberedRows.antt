@@ -3,12 +3,12 @@ use Rattle.std.proofs.Common.{◌≡◌, ◌≢◌, ℕ, zero, suc, ◌+◌, ◌
 use Rattle.std.specs.Prelude.{◌==◌, nat_lt, nat_le}
 use Rattle.std.specs.List.{flat_map}
 use Rattle.std.proofs.lemmas.Bool.{cases_Bool, cases_eq, cases_lt, cond-true, cond-false, ne_eqb, and_parts, and_from, false_from_ne_true, ltb-true, leb-true, lt-ltb, le-leb}
-use Rattle.cg_group.specs.EachLaws.{Each, Each-append, Each-weaker}
+use Rattle.cg_group.specs.EachLaws.{Each-append, Each-weaker}
 use Rattle.cg_base.specs.declared.action_id.ActionId.{ActionId}
 use Rattle.cg_base.specs.Ids.{same_id, names}
 use Rattle.cg_base.specs.IdLaws.{same_id-true, same_id-false, same_id-self}
 use Rattle.cg_base.specs.Cuts.{index_in}
-use Rattle.cg_base.specs.Lists.{count_up, row_at}
+use Rattle.cg_base.specs.Lists.{count_up, row_at, Each}
 use Rattle.cg_base.specs.Replicas.{every_replica}
 use Rattle.cg_base.specs.Sets.{IsId}
 use Rattle.cg_action.specs.declared.action.Action.{Action}

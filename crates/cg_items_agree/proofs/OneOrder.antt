@@ -3,8 +3,8 @@ use Rattle.std.proofs.Common.{◌≡◌, ℕ, zero, suc, ◌<◌, List, [], ◌�
 use Rattle.std.proofs.lemmas.List.{map-append}
 use Rattle.std.proofs.lemmas.List.Elements.{Contains-append_right}
 use Rattle.cg_base.specs.declared.action_id.ActionId.{ActionId}
-use Rattle.cg_base.specs.Lists.{present, at_place}
-use Rattle.cg_group.specs.EachLaws.{Each, Each-append}
+use Rattle.cg_base.specs.Lists.{present, at_place, Each}
+use Rattle.cg_group.specs.EachLaws.{Each-append}
 use Rattle.cg_report.specs.declared.entry.Placed.{Placed}
 use Rattle.cg_report.specs.declared.entry.Shown.{Shown}
 use Rattle.cg_report.specs.declared.entry.Shown.TheVariants.{Weak, Dirty, Pieces, Greens, Database, All}
@@ -21,12 +21,8 @@ use Rattle.cg_compare.specs.Places.{last_place, name_at}
 use Rattle.cg_items.specs.LogsShown.{log_of, logs_from, is_agreement}
 use Rattle.cg_items_agree.specs.ShownLogs.{ShownLogsAgree}
 use Rattle.cg_items_agree.proofs.AtPlaces.{part-at, no-repeats}
-
-order-append : (a b : List Step) → order_of (a ++ b) ≡ order_of a ++ order_of b
-order-append a b = ap (map (λ (o : Placed). o.id)) (lines a) ∙ map-append (λ (o : Placed). o.id) (order_lines a) (order_lines b) where
-  lines : (a : List Step) → order_lines (a ++ b) ≡ order_lines a ++ order_lines b
-  lines [] = refl
-  lines (s ∷ a) = ap (λ os. s.entry.orders ++ os) (lines a) ∙ sym (append_assoc s.entry.orders (order_lines a) (order_lines b))
+use Rattle.cg_base.specs.ElementLaws.{each-contains}
+use Rattle.cg_model.specs.RunLaws.{order-append}
 
 module _ (all : List Step) (prefix : Prefix all) where
   -- what a step shows of a replica's greens
@@ -65,11 +61,6 @@ module _ (all : List Step) (prefix : Prefix all) where
       (subst (λ (ids : List ActionId). name_at (record { line = length now; white = white_of p now; list = ids }) place ≡ Some id) (prefix.shown earlier s p list (steps, is) there) named))))
       (logs-agree now steps goes_on)
 
-each-there : (P : Log → Type 0) (logs : List Log) (log : Log) → Each P logs → Contains logs log → P log
-each-there P [] log each there = absurd (let less = there.1 in omega arith)
-each-there P (x ∷ logs) log each (zero, less, is) = subst P is each.0
-each-there P (x ∷ logs) log each (suc k, less, is) = each-there P logs log each.1 (k, (let more : suc k < suc (length logs) = less in omega arith), is)
-
 pub logs-of-run : EveryRunAgrees → AgreementGuarantees →
     ((logs : List Log) (order : List ActionId) → IsOrderOf logs order → join_logs logs ≡ Agree (last_place logs) (covered logs)) →
     ShownLogsAgree
@@ -78,6 +69,6 @@ logs-of-run agrees guarantees joins steps run =
     let logs = logs_from [] steps in
     let of_order : IsOrderOf logs (order_of steps) = record {
       once = no-repeats (order_of steps) (guarantees steps None agreement).exactly_once.ordered;
-      agrees = λ log there. each-there (AgreesWith (order_of steps)) logs log (logs-agree steps agreement.prefix [] steps refl) there;
+      agrees = λ log there. each-contains (AgreesWith (order_of steps)) logs log (logs-agree steps agreement.prefix [] steps refl) there;
     } in
     ap is_agreement (joins logs (order_of steps) of_order)

@@ -7,13 +7,9 @@ use Rattle.cg_report.specs.declared.entry.Placed.{Placed}
 use Rattle.cg_model.specs.Run.{Step}
 use Rattle.cg_model.specs.Shown.{order_of, order_lines, made_names, made_actions, ordered_actions}
 use Rattle.cg_model.specs.Agreement.{CreatorOrder}
-use Rattle.cg_items_agree.proofs.FollowersElements.{contains-none, take-there, last-of, flat-append}
-use Rattle.cg_items_agree.proofs.MadeActions.{AreMade, actions-more, actions-append, names-made}
-
-pub order-append : (a b : List Step) → order_of (a ++ b) ≡ order_of a ++ order_of b
-order-append a b =
-    ap (map (λ (o : Placed). o.id)) (flat-append (λ (s : Step). s.entry.orders) a b)
-    ∙ map-append (λ (o : Placed). o.id) (order_lines a) (order_lines b)
+use Rattle.cg_base.specs.ElementLaws.{contains-none, take-there, last-of, flat-append}
+use Rattle.cg_model.specs.MadeLaws.{AreMade, actions-more, actions-append, names-made}
+use Rattle.cg_model.specs.RunLaws.{order-append}
 
 -- all names of the order were made
 pub all-made : (steps : List Step) → CreatorOrder steps → AreMade steps (order_of steps)

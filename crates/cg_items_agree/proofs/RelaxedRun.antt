@@ -3,7 +3,7 @@ use Rattle.std.proofs.Common.{◌≡◌, ℕ, zero, suc, ◌<◌, true, List, []
 use Rattle.std.specs.Option.{option_map_or}
 use Rattle.std.proofs.lemmas.List.Elements.{Contains-append_right}
 use Rattle.std.proofs.lemmas.List.Sums.{fold-append}
-use Rattle.cg_group.specs.EachLaws.{Each}
+use Rattle.cg_base.specs.Lists.{Each}
 use Rattle.cg_action.specs.declared.action.Action.{Action}
 use Rattle.cg_queue.specs.Queue.{names_of}
 use Rattle.cg_client.specs.Replica.{Held}
@@ -24,24 +24,13 @@ use Rattle.cg_model.specs.Standing.{AlwaysStands, IsReached}
 use Rattle.cg_model.specs.Telling.{EveryRunTells}
 use Rattle.cg_agree_lemmas.specs.BookGrows.{IsNamed, named_in, named-all}
 use Rattle.cg_items.specs.Relaxing.{with_step}
-use Rattle.cg_items_agree.proofs.MadeNames.{made-last}
 use Rattle.cg_items_agree.proofs.MadeRows.{AreRowsOf, AreNumbered, rows_of, no-rows, rows-step, numbered-on}
 use Rattle.cg_items_agree.proofs.NamedIds.{AreIds, ids-behind, no-ids}
+use Rattle.cg_base.specs.ElementLaws.{each-contains}
+use Rattle.cg_model.specs.MadeLaws.{made-last}
+use Rattle.cg_model.specs.RunLaws.{front-run, world-last, chronicle-last}
 
 -- ---- fronts of runs
-
-pub front-run : (w : World) (xs ys : List Step) → IsRunFrom w (xs ++ ys) → IsRunFrom w xs
-front-run w [] ys run = tt
-front-run w (s ∷ xs) ys run = (run.0, run.1, run.2, front-run s.world xs ys run.3)
-
-world-last : (w : World) (xs : List Step) (s : Step) → world_after w (through xs s) ≡ s.world
-world-last w [] s = refl
-world-last w (x ∷ xs) s = world-last x.world xs s
-
-chronicle-last : (c : Chronicle) (w : World) (xs : List Step) (s : Step) →
-    chronicle_after c w (through xs s) ≡ chronicle_step (chronicle_after c w xs) (world_after w xs) s.event
-chronicle-last c w [] s = refl
-chronicle-last c w (x ∷ xs) s = chronicle-last (chronicle_step c w x.event) x.world xs s
 
 record IsTaken (w : World) (s : Step) : Type 0 where
   may : MayStand w s.event
@@ -53,11 +42,6 @@ taken-there w [] s run = record { may = run.0; admitted = run.1; moved = run.2 }
 taken-there w (x ∷ xs) s run = taken-there x.world xs s run.3
 
 -- ---- one book
-
-each-there : {X : Type 0} (P : X → Type 0) (xs : List X) (x : X) → Each P xs → Contains xs x → P x
-each-there P [] x each there = absurd (let less = there.1 in omega arith)
-each-there P (y ∷ xs) x each (zero, less, is) = subst P is each.0
-each-there P (y ∷ xs) x each (suc k, less, is) = each-there P xs x each.1 (k, (let more : suc k < suc (length xs) = less in omega arith), is)
 
 there-each : {X : Type 0} (P : X → Type 0) (xs : List X) → ((x : X) → Contains xs x → P x) → Each P xs
 there-each P [] each = tt
@@ -71,8 +55,8 @@ one-action : (book : List Action) → run_on [] (names_of book) ≡ true → (a 
     Contains book b → a.id ≡ b.id → a ≡ b
 one-action book runs a b first second same =
     let all : Each (IsNamed book) book = named-all [] book runs in
-    let one = each-there (IsNamed book) book a all first in
-    let other = each-there (IsNamed book) book b all second in
+    let one = each-contains (IsNamed book) book a all first in
+    let other = each-contains (IsNamed book) book b all second in
     ap (λ o. option_map_or (λ x. x) o a) (sym one ∙ ap (named_in book) same ∙ other)
 
 one-list : (book : List Action) → run_on [] (names_of book) ≡ true → (f g : Made → Action) →

@@ -5,14 +5,14 @@ use Rattle.std.proofs.lemmas.Bool.{cases_Bool, cases_lt, cond-true, cond-false, 
 use Rattle.cg_base.specs.declared.action_id.ActionId.{ActionId}
 use Rattle.cg_base.specs.Ids.{same_id}
 use Rattle.cg_base.specs.IdLaws.{same_id-is, same_id-self}
-use Rattle.cg_base.specs.Lists.{above_up_to}
+use Rattle.cg_base.specs.Lists.{above_up_to, Each}
 use Rattle.cg_base.specs.Sets.{has}
 use Rattle.cg_action.specs.declared.action.Kind.TheVariants.{Update, Join as JoinKind, Leave as LeaveKind}
 use Rattle.cg_queue.specs.Queue.{green_count, names_of}
 use Rattle.cg_wire.specs.declared.message.Msg.{Msg}
 use Rattle.cg_group.specs.declared.delivery.Delivery.TheVariants.{Regular as RegularIn}
 use Rattle.cg_group.specs.declared.delivery.Handed.{Handed}
-use Rattle.cg_group.specs.EachLaws.{Each, Each-has}
+use Rattle.cg_group.specs.EachLaws.{Each-has}
 use Rattle.cg_group.specs.State.{GroupState, delivered_to, home}
 use Rattle.cg_group.specs.Events.{deliveries_at, handed_in_split, deliver, split, merge}
 use Rattle.cg_report.specs.declared.entry.Reply.{Reply}
@@ -45,8 +45,8 @@ use Rattle.cg_agree_lemmas.specs.TurnGreens.{memory-count, names-append, names-c
 use Rattle.cg_agree_lemmas.specs.TurnReplies.{step-answered}
 use Rattle.cg_agree_lemmas.specs.TurnWorlds.{up_node, life_at}
 use Rattle.cg_agree_lemmas.specs.WorldTurns.{EndsSo, hand-behind, alone-ends, handed-ends}
-use Rattle.cg_items_agree.proofs.EventRuns.{event-runs}
-use Rattle.cg_items_agree.proofs.GreensBehind.{greens-through}
+use Rattle.cg_agree_lemmas.specs.EventRuns.{event-runs}
+use Rattle.cg_agree_lemmas.specs.GreensBehind.{greens-through}
 
 -- ---- places
 

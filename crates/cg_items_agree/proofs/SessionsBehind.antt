@@ -4,7 +4,7 @@ use Rattle.std.proofs.lemmas.List.{map-append}
 use Rattle.cg_base.specs.declared.action_id.ActionId.{ActionId}
 use Rattle.cg_base.specs.Ids.{same_id, names}
 use Rattle.cg_base.specs.IdLaws.{same_id-is, same_id-self}
-use Rattle.cg_group.specs.EachLaws.{Each}
+use Rattle.cg_base.specs.Lists.{Each}
 use Rattle.cg_report.specs.declared.entry.Made.{Made}
 use Rattle.cg_report.specs.declared.entry.Placed.{Placed}
 use Rattle.cg_report.specs.declared.entry.Reply.{Reply}
@@ -28,6 +28,8 @@ use Rattle.cg_terms.specs.Terms.{AgreementGuarantees, Guarantees}
 use Rattle.cg_items_agree.proofs.SessionsRising.{Ascends}
 use Rattle.cg_items_agree.proofs.RepliesAt.{IsAt, replies-fine}
 use Rattle.cg_items_agree.proofs.RepliesAscend.{ascends}
+use Rattle.cg_base.specs.ElementLaws.{flat-append}
+use Rattle.cg_model.specs.RunLaws.{front-run, world-last}
 
 -- the laws of the crates below that are cited
 pub record Laws : Type 0 where
@@ -44,14 +46,6 @@ world_of steps = world_after no_world steps
 
 abbrev pub chronicle_of : List Step → Chronicle
 chronicle_of steps = chronicle_after no_chronicle no_world steps
-
-pub front-run : (w : World) (xs ys : List Step) → IsRunFrom w (xs ++ ys) → IsRunFrom w xs
-front-run w [] ys run = tt
-front-run w (s ∷ xs) ys run = (run.0, run.1, run.2, front-run s.world xs ys run.3)
-
-pub world-last : (w : World) (xs : List Step) (s : Step) → world_after w (through xs s) ≡ s.world
-world-last w [] s = refl
-world-last w (x ∷ xs) s = world-last x.world xs s
 
 -- what the run says of a step
 pub record IsStepOf (w : World) (s : Step) : Type 0 where
@@ -90,10 +84,6 @@ stands-behind laws steps run =
     }
 
 -- ---- lists
-
-pub flat-append : {X Y : Type 0} (f : X → List Y) (xs ys : List X) → flat_map f (xs ++ ys) ≡ flat_map f xs ++ flat_map f ys
-flat-append f [] ys = refl
-flat-append f (x ∷ xs) ys = ap (λ zs. f x ++ zs) (flat-append f xs ys) ∙ sym (append_assoc (f x) (flat_map f xs) (flat_map f ys))
 
 pub order-through : (steps : List Step) (s : Step) → order_of (through steps s) ≡ order_of steps ++ map (λ o. o.id) s.entry.orders
 order-through steps s =

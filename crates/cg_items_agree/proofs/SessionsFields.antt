@@ -6,14 +6,13 @@ use Rattle.std.proofs.lemmas.List.Elements.{Contains-append_cases}
 use Rattle.cg_base.specs.declared.action_id.ActionId.{ActionId}
 use Rattle.cg_base.specs.Ids.{same_id}
 use Rattle.cg_base.specs.IdLaws.{same_id-is}
-use Rattle.cg_base.specs.Lists.{first_some, present}
+use Rattle.cg_base.specs.Lists.{first_some, present, Each}
 use Rattle.cg_action.specs.declared.action.Kind.TheVariants.{Update}
 use Rattle.cg_action.specs.declared.command.Cmd.{Cmd}
 use Rattle.cg_action.specs.declared.query.Query.{Query}
 use Rattle.cg_action.specs.declared.answer.Answer.{Answer}
 use Rattle.cg_group.specs.declared.reason.Reason.{Reason}
 use Rattle.cg_group.specs.declared.reason.Reason.TheVariants.{UnknownSession, SessionUsed}
-use Rattle.cg_group.specs.EachLaws.{Each}
 use Rattle.cg_group.specs.Refusals.{refuse}
 use Rattle.cg_report.specs.declared.entry.Made.{Made}
 use Rattle.cg_report.specs.declared.entry.Reply.{Reply}
@@ -47,10 +46,12 @@ use Rattle.cg_items_agree.proofs.SessionsLooking.{stands-token}
 use Rattle.cg_items_agree.proofs.SessionsBehind.{Laws, contains-names}
 use Rattle.cg_items_agree.proofs.SessionsWrites.{IsMade, MadeOne, MadeNone, one_made, write-made}
 use Rattle.cg_items_agree.proofs.SessionsReading.{read-at}
-use Rattle.cg_items_agree.proofs.SessionsItems.{steps-append, world-next}
+use Rattle.cg_items_agree.proofs.SessionsItems.{world-next}
 use Rattle.cg_items_agree.proofs.SessionsNoted.{Holds, can-write}
 use Rattle.cg_items_agree.proofs.SessionsWalk.{ItemStands, item-stands, AllStand, all-stand}
 use Rattle.cg_items_agree.proofs.OtherCommands.{others-agree}
+use Rattle.cg_base.specs.ElementLaws.{each-contains}
+use Rattle.cg_items.specs.ItemLaws.{steps-append}
 
 -- ---- what the lines of an item tell of reads
 
@@ -58,11 +59,6 @@ use Rattle.cg_items_agree.proofs.OtherCommands.{others-agree}
 abbrev NoRead : SessionLine → Type 0
 NoRead (Answered s a n) = ⊥
 NoRead other = Unit {0}
-
-each-contains : {X : Type 0} (P : X → Type 0) (xs : List X) (x : X) → Each P xs → Contains xs x → P x
-each-contains P [] x each there = absurd (let less = there.1 in omega arith)
-each-contains P (y ∷ xs) x each (zero, less, is) = subst P is each.0
-each-contains P (y ∷ xs) x each (suc k, less, is) = each-contains P xs x each.1 (k, omega arith, is)
 
 wrote-no_read : (asked : Option SessionEvent) (made : List Made) → Each NoRead (wrote_due asked made)
 wrote-no_read None made = tt

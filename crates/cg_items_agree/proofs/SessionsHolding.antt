@@ -5,7 +5,7 @@ use Rattle.std.proofs.lemmas.Bool.{cases_Bool, or_cases}
 use Rattle.cg_base.specs.declared.action_id.ActionId.{ActionId}
 use Rattle.cg_base.specs.Ids.{names, same_id}
 use Rattle.cg_base.specs.IdLaws.{same_id-is}
-use Rattle.cg_group.specs.EachLaws.{Each}
+use Rattle.cg_base.specs.Lists.{Each}
 use Rattle.cg_model.specs.Places.{place_of}
 use Rattle.cg_session_list.specs.declared.session.Session.{Session}
 use Rattle.cg_session_list.specs.declared.session_line.SessionLine.{SessionLine}
@@ -25,11 +25,11 @@ place-grows (x ∷ order) more id within = at (same_id x id) within (place-grows
   at true within rest = refl
   at false within rest = ap suc (rest (omega arith))
 
-pub each-named : (P : ActionId → Type 0) (ids : List ActionId) (id : ActionId) → Each P ids → names ids id ≡ true → P id
-each-named P [] id each there = absurd (let clash : false ≡ true = there in cc)
-each-named P (x ∷ ids) id each there = elim (cases_Bool (same_id id x)) [
+pub names-each : (P : ActionId → Type 0) (ids : List ActionId) (id : ActionId) → Each P ids → names ids id ≡ true → P id
+names-each P [] id each there = absurd (let clash : false ≡ true = there in cc)
+names-each P (x ∷ ids) id each there = elim (cases_Bool (same_id id x)) [
   | inl here ↦ subst P (sym (same_id-is id x here)) each.0
-  | inr other ↦ each-named P ids id each.1 (sym (ap (λ b. b || names ids id) other) ∙ there)
+  | inr other ↦ names-each P ids id each.1 (sym (ap (λ b. b || names ids id) other) ∙ there)
 ]
 
 -- behind lines, with which sessions were opened, the names of the actions that were made, the order, and the names that were replied to
@@ -106,17 +106,17 @@ module _ (lines : List SessionLine) (opened : ℕ → Bool) (made order replied 
     known = known-now;
     placed = λ id there. elim (either id there) [
       | inl old ↦ (let same = still id old in let low = h.placed id old in let long = length-append order more in omega arith)
-      | inr now ↦ each-named (λ id. place_of (order ++ more) id ≤ length (order ++ more)) new id within now
+      | inr now ↦ names-each (λ id. place_of (order ++ more) id ≤ length (order ++ more)) new id within now
     ];
     was_made = λ id there. elim (either id there) [
       | inl old ↦ grown id (h.was_made id old)
-      | inr now ↦ each-named (λ id. names made_now id ≡ true) new id new_made now
+      | inr now ↦ names-each (λ id. names made_now id ≡ true) new id new_made now
     ];
     held = λ s id own there. elim (either id there) [
       | inl old ↦ elim (followed.gained s id own) [
         | inl before ↦ (let same = still id old in let low = h.held s id before old in let up = followed.grows s in omega arith)
         | inr now ↦ absurd (let clash : true ≡ false = sym (h.was_made id old) ∙ fresh id now in cc)
       ]
-      | inr now ↦ (each-named (λ id. (s : ℕ) → owns m.sessions s id ≡ true → place_of (order ++ more) id ≤ position_in m.sessions s) new id followed.least now) s own
+      | inr now ↦ (names-each (λ id. (s : ℕ) → owns m.sessions s id ≡ true → place_of (order ++ more) id ≤ position_in m.sessions s) new id followed.least now) s own
     ];
   }

@@ -15,8 +15,10 @@ use Rattle.cg_items.specs.AfterItems.{world_behind, order_behind}
 use Rattle.cg_items.specs.Items.{Item, steps_of, entry_of}
 use Rattle.cg_items.specs.Kept.{next_world}
 use Rattle.cg_items.specs.SessionsAgree.{session_line, session_lines, session_event_of, opens, was_opened, replied_to}
-use Rattle.cg_items_agree.proofs.SessionsTold.{present-both}
-use Rattle.cg_items_agree.proofs.SessionsBehind.{flat-append, order-through, made-through, world-last}
+use Rattle.cg_items_agree.proofs.SessionsBehind.{order-through, made-through}
+use Rattle.cg_base.specs.ElementLaws.{flat-append, present-append}
+use Rattle.cg_items.specs.ItemLaws.{steps-append}
+use Rattle.cg_model.specs.RunLaws.{world-last}
 
 -- ---- lines
 
@@ -24,7 +26,7 @@ pub lines-append : (a b : List Item) → session_lines (a ++ b) ≡ session_line
 lines-append a b =
     ap (λ ls. present (map session_line ls)) (flat-append (λ (i : Item). i.lines) a b)
     ∙ ap present (map-append session_line (flat_map (λ i. i.lines) a) (flat_map (λ i. i.lines) b))
-    ∙ present-both (map session_line (flat_map (λ i. i.lines) a)) (map session_line (flat_map (λ i. i.lines) b))
+    ∙ present-append (map session_line (flat_map (λ i. i.lines) a)) (map session_line (flat_map (λ i. i.lines) b))
 
 pub lines-one : (i : Item) → session_lines (i ∷ []) ≡ present (map session_line i.lines)
 lines-one i = ap (λ ls. present (map session_line ls)) (append-nil i.lines)
@@ -51,9 +53,6 @@ replied-next earlier i =
     ∙ map-append (λ (r : Reply). r.id) (flat_map (λ (i : Item). (entry_of i).replies) earlier) (entry_of i).replies
 
 -- ---- steps
-
-pub steps-append : (a b : List Item) → steps_of (a ++ b) ≡ steps_of a ++ steps_of b
-steps-append a b = ap present (map-append (λ (i : Item). i.step) a b) ∙ present-both (map (λ (i : Item). i.step) a) (map (λ (i : Item). i.step) b)
 
 -- the order, the names of made actions, and the replies, with one more step where there is one
 abbrev pub order_by : Option Step → List ActionId → List ActionId

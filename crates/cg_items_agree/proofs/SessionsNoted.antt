@@ -3,13 +3,13 @@ use Rattle.std.proofs.Common.{◌≡◌, ℕ, ◌==◌, ◌≤◌, ◌||◌, is_
 use Rattle.std.specs.Option.{option_map_or}
 use Rattle.cg_base.specs.declared.action_id.ActionId.{ActionId}
 use Rattle.cg_base.specs.Ids.{names}
-use Rattle.cg_base.specs.Lists.{first_some, present}
+use Rattle.cg_base.specs.Lists.{first_some, present, Each}
 use Rattle.cg_action.specs.declared.command.Cmd.{Cmd}
 use Rattle.cg_action.specs.declared.query.Query.{Query}
 use Rattle.cg_action.specs.declared.action.Kind.TheVariants.{Update}
 use Rattle.cg_db.specs.Find.{answer}
 use Rattle.cg_group.specs.declared.reason.Reason.TheVariants.{UnknownSession, SessionUsed, NotCreating}
-use Rattle.cg_group.specs.EachLaws.{Each, Each-weaker}
+use Rattle.cg_group.specs.EachLaws.{Each-weaker}
 use Rattle.cg_queue.specs.Queue.{green_count}
 use Rattle.cg_report.specs.declared.entry.Made.{Made}
 use Rattle.cg_report.specs.declared.entry.Reply.{Reply}
@@ -39,17 +39,17 @@ use Rattle.cg_items.specs.Items.{Item, steps_of}
 use Rattle.cg_items.specs.Kept.{noted_by, IsTaken}
 use Rattle.cg_items.specs.Sessions.{not_creating, read_of, with_written}
 use Rattle.cg_items.specs.SessionsAgree.{session_lines, seen, opens, was_opened, replied_to, wrote_due, writer_of, at_due, read_due}
-use Rattle.cg_agree_lemmas.specs.MadeAlone.{not-refused}
 use Rattle.cg_agree_lemmas.specs.UnorderedKept.{first-none, refused-not}
 use Rattle.cg_items_agree.proofs.SessionsLooking.{stands_in, stands-token, stands-new}
 use Rattle.cg_items_agree.proofs.SessionsTold.{names-append, position_in, due_from, goes-none, goes-opened, goes-read, read_line}
 use Rattle.cg_items_agree.proofs.SessionsRising.{Ascends}
 use Rattle.cg_items_agree.proofs.SessionsFollowing.{FreshOne, MayWrite, written_by, wrote_lines, follows-on}
-use Rattle.cg_items_agree.proofs.SessionsHolding.{HoldsIn, holds-beside, holds-behind, each-named}
+use Rattle.cg_items_agree.proofs.SessionsHolding.{HoldsIn, holds-beside, holds-behind, names-each}
 use Rattle.cg_items_agree.proofs.SessionsBehind.{Laws, order-through, order-now, replies-stand, ordered-made, made-through}
 use Rattle.cg_items_agree.proofs.SessionsWrites.{IsMade, MadeOne, MadeNone, write-made, one-fresh}
 use Rattle.cg_items_agree.proofs.SessionsReading.{read-at}
 use Rattle.cg_items_agree.proofs.SessionsItems.{order_by, made_by, replied_by}
+use Rattle.cg_group.specs.RefusalLaws.{refuse_none}
 
 -- what is held behind items
 abbrev pub Holds : List Item → List Session → Type 0
@@ -183,7 +183,7 @@ module _ (laws : Laws) (earlier : List Item) (open_ : List Session) (h : Holds e
       Comes earlier open_ (Some (further.Session (Write t p cmds query))) (Some s)
   comes-write t p cmds query s run event may =
       comes-behind (Some (further.Session (Write t p cmds query))) s run (Some t) mine refl (wrote-ids t s.entry.made) refl (λ t. refl) (may.stands, fresh-one) within
-      (λ id there. each-named (λ id. names (made_names before) id ≡ false) mine id each-fresh there) where
+      (λ id there. names-each (λ id. names (made_names before) id ≡ false) mine id each-fresh there) where
         mine : List ActionId
         mine = map (λ (m : Made). m.id) s.entry.made
 
@@ -264,7 +264,7 @@ module _ (laws : Laws) (earlier : List Item) (open_ : List Session) (h : Holds e
   comes (Some (further.Follow e)) o taken run = absurd (let clash : false ≡ true = taken.0 in cc)
   comes (Some (further.Relaxed e)) o taken run = absurd (let clash : false ≡ true = taken.0 in cc)
   comes (Some (further.Session (Begin t))) None taken run =
-      comes-opened t (sym (stands-token open_ t) ∙ not-refused (is_some (token_of open_ t)) (SessionUsed t) taken.1)
+      comes-opened t (sym (stands-token open_ t) ∙ refuse_none (is_some (token_of open_ t)) (SessionUsed t) taken.1)
   comes (Some (further.Session (Weak t p query))) None taken run =
       let w = world_behind earlier in
       let first = first-none (unknown_session open_ t) (takes_part w p ∷ []) (ap is_none taken.1) in

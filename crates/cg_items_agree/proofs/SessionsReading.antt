@@ -9,7 +9,9 @@ use Rattle.cg_model.specs.Run.{Step, IsRunFrom}
 use Rattle.cg_model.specs.Shown.{order_of, ordered_actions, position_of}
 use Rattle.cg_agree_lemmas.specs.MadeAlone.{takes-part, is-running}
 use Rattle.cg_agree_lemmas.specs.SoundWorlds.{sound-of, sound-same}
-use Rattle.cg_items_agree.proofs.SessionsBehind.{Laws, world_of, chronicle_of, world-last, StandsBehind, stands-behind}
+use Rattle.cg_items_agree.proofs.SessionsBehind.{Laws, world_of, chronicle_of, StandsBehind, stands-behind}
+use Rattle.cg_base.specs.ElementLaws.{HasLast, last-of}
+use Rattle.cg_model.specs.RunLaws.{world-last}
 
 pub record ReadAt (steps : List Step) (p : ℕ) : Type 0 where
   pub replica : Replica
@@ -17,18 +19,6 @@ pub record ReadAt (steps : List Step) (p : ℕ) : Type 0 where
   pub position : position_of p steps ≡ green_count replica.held.queue
   pub within : position_of p steps ≤ length (order_of steps)
   pub db : replica.held.db ≡ fold_actions (ordered_actions steps (position_of p steps))
-
-record IsLast (xs : List Step) : Type 0 where
-  front : List Step
-  last : Step
-  is : xs ≡ front ++ last ∷ []
-
-last-of : (xs : List Step) → (xs ≡ []) ⊎ IsLast xs
-last-of [] = inl refl
-last-of (x ∷ xs) = elim (last-of xs) [
-  | inl none ↦ inr (record { front = []; last = x; is = ap (λ zs. x ∷ zs) none })
-  | inr some ↦ inr (record { front = x ∷ some.front; last = some.last; is = ap (λ zs. x ∷ zs) some.is })
-]
 
 pub read-at : Laws → (steps : List Step) → IsRunFrom no_world steps → (p : ℕ) → takes_part (world_of steps) p ≡ None → ReadAt steps p
 read-at laws steps run p takes =
@@ -38,7 +28,7 @@ read-at laws steps run p takes =
     let sound = sound-same w c.world behind.stands.same (sound-of c behind.stands.facts) in
     let up = is-running w p (sound.up p ∙ (takes-part w p takes).up) in
     at behind up.replica up.is (last-of steps) where
-      at : StandsBehind steps → (r : Replica) → replica_of (world_of steps) p ≡ Some r → (steps ≡ []) ⊎ IsLast steps → ReadAt steps p
+      at : StandsBehind steps → (r : Replica) → replica_of (world_of steps) p ≡ Some r → (steps ≡ []) ⊎ HasLast steps → ReadAt steps p
       at behind r is (inl none) = absurd (let clash : None ≡ Some r = sym (ap (λ xs. replica_of (world_of xs) p) none) ∙ is in cc)
       at behind r is (inr some) =
           let there : replica_of some.last.world p ≡ Some r =

@@ -15,6 +15,7 @@ use Rattle.cg_session_list.specs.Sessions.{SessionsNoted, token_of, changed, cha
 use Rattle.cg_items.specs.SessionsAgree.{at_number, written_on, writer_on, writer_of}
 use Rattle.cg_items_agree.proofs.SessionsRising.{Rises, last_from, rises-append, last-append}
 use Rattle.cg_items_agree.proofs.SessionsLooking.{look, stands_in, Apart, look-same, look-none, look-token, look-new, look-map, look-set, look-or, stands-token, apart-map, change_at, look-changing, stands-changing, apart-changing, apart-new}
+use Rattle.cg_base.specs.ElementLaws.{present-append}
 
 -- ---- lines
 
@@ -30,16 +31,11 @@ abbrev pub is_of : ℕ → Option ℕ → Bool
 is_of s None = false
 is_of s (Some t) = t == s
 
-pub present-both : {X : Type 0} (a b : List (Option X)) → present (a ++ b) ≡ present a ++ present b
-present-both [] b = refl
-present-both (None ∷ a) b = present-both a b
-present-both (Some x ∷ a) b = ap (λ xs. x ∷ xs) (present-both a b)
-
 pub numbers-append : (s : ℕ) (a b : List SessionLine) → numbers_on s (a ++ b) ≡ numbers_on s a ++ numbers_on s b
-numbers-append s a b = ap present (map-append (at_number s) a b) ∙ present-both (map (at_number s) a) (map (at_number s) b)
+numbers-append s a b = ap present (map-append (at_number s) a b) ∙ present-append (map (at_number s) a) (map (at_number s) b)
 
 pub written-append : (s : ℕ) (a b : List SessionLine) → written_in s (a ++ b) ≡ written_in s a ++ written_in s b
-written-append s a b = ap present (map-append (written_on s) a b) ∙ present-both (map (written_on s) a) (map (written_on s) b)
+written-append s a b = ap present (map-append (written_on s) a b) ∙ present-append (map (written_on s) a) (map (written_on s) b)
 
 abbrev pub or_else : Option ℕ → Option ℕ → Option ℕ
 or_else None b = b

@@ -15,9 +15,11 @@ use Rattle.cg_items.specs.Items.{Item, steps_of}
 use Rattle.cg_items.specs.Kept.{noted_by, next_world, kept_behind, IsTaken, AreNoted}
 use Rattle.cg_items.specs.SessionsAgree.{session_line, session_lines, session_event_of, opens, was_opened, replied_to, lines_due}
 use Rattle.cg_items_agree.proofs.SessionsHolding.{HoldsIn, holds-first}
-use Rattle.cg_items_agree.proofs.SessionsBehind.{Laws, front-run}
-use Rattle.cg_items_agree.proofs.SessionsItems.{order_by, made_by, replied_by, lines-append, lines-one, plain-lines, opened-next, steps-append, order-next, made-next, replies-next, world-next}
+use Rattle.cg_items_agree.proofs.SessionsBehind.{Laws}
+use Rattle.cg_items_agree.proofs.SessionsItems.{order_by, made_by, replied_by, lines-append, lines-one, plain-lines, opened-next, order-next, made-next, replies-next, world-next}
 use Rattle.cg_items_agree.proofs.SessionsNoted.{Holds, due_of, comes}
+use Rattle.cg_items.specs.ItemLaws.{steps-append}
+use Rattle.cg_model.specs.RunLaws.{front-run}
 
 -- the steps of the first items are a run
 pub front-items : (earlier later : List Item) → IsRunFrom no_world (steps_of (earlier ++ later)) → IsRunFrom no_world (steps_of earlier)

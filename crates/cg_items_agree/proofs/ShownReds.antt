@@ -11,7 +11,7 @@ use Rattle.cg_base.specs.Cuts.{index_in}
 use Rattle.cg_base.specs.Ids.{names}
 use Rattle.cg_client.specs.Replica.{Held, Replica, created}
 use Rattle.cg_disk_records.specs.RunMarkLaws.{run-names}
-use Rattle.cg_group.specs.EachLaws.{Each}
+use Rattle.cg_base.specs.Lists.{Each}
 use Rattle.cg_model.specs.Attempts.{held_in}
 use Rattle.cg_model.specs.Chronicle.{Chronicle}
 use Rattle.cg_model.specs.FactsBooks.{IsActionShown, KeepsUnshown, MadeFits, NodeIsDown, NodeShown, OrderFits}

@@ -15,14 +15,11 @@ use Rattle.cg_model.specs.Standing.{IsReached, AlwaysStands}
 use Rattle.cg_model.specs.Telling.{EveryRunTells}
 use Rattle.cg_agree_lemmas.specs.SoundWorlds.{IsSound, sound-same, sound-of}
 use Rattle.cg_agree_lemmas.specs.MadeAlone.{takes-part, is-running}
-use Rattle.cg_items_agree.proofs.FollowersElements.{last-of}
+use Rattle.cg_base.specs.ElementLaws.{last-of}
 use Rattle.cg_items_agree.proofs.OrderActions.{all-made}
 use Rattle.cg_items_agree.proofs.FollowersGreens.{HasGreens}
 use Rattle.cg_items_agree.proofs.FollowersAgree.{AlwaysStandsSo}
-
-world-last : (w : World) (xs : List Step) (s : Step) → world_after w (through xs s) ≡ s.world
-world-last w [] s = refl
-world-last w (x ∷ xs) s = world-last x.world xs s
+use Rattle.cg_model.specs.RunLaws.{world-last}
 
 module _ (agrees : EveryRunAgrees) (facts : AlwaysStands) (tells : EveryRunTells) where
   agreement : (steps : List Step) → IsRunFrom no_world steps → Agreement steps None

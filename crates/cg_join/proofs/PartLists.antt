@@ -6,7 +6,7 @@ use Rattle.std.proofs.lemmas.List.{length-map}
 use Rattle.cg_action.specs.declared.action.Action.{Action}
 use Rattle.cg_action.specs.declared.entry.DbEntry.{DbEntry}
 use Rattle.cg_client.specs.Replica.{Held}
-use Rattle.cg_records.specs.Limits.{Each}
+use Rattle.cg_base.specs.Lists.{Each}
 use Rattle.cg_join.specs.declared.name.SnapshotName.{SnapshotName}
 use Rattle.cg_join.specs.declared.piece.PieceContent.{PieceContent}
 use Rattle.cg_join.specs.declared.piece.PieceContent.TheVariants.{Start, Green, Entry, End}

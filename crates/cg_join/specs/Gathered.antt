@@ -3,7 +3,7 @@ use Rattle.std.specs.Prelude.{[], ◌∷◌, ◌++◌, Some, None, IfSome}
 use Rattle.cg_action.specs.ActionLimits.{IsAction}
 use Rattle.cg_db.specs.Limits.{AreEntries}
 use Rattle.cg_db.specs.Map.{put}
-use Rattle.cg_records.specs.Limits.{Each}
+use Rattle.cg_base.specs.Lists.{Each}
 use Rattle.cg_join.specs.declared.gather.Gathered.{Gathered}
 use Rattle.cg_join.specs.declared.piece.PieceContent.{PieceContent}
 use Rattle.cg_join.specs.declared.piece.PieceContent.TheVariants.{Start, Green, Entry, End}

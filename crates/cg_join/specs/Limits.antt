@@ -4,7 +4,8 @@ use Rattle.cg_base.specs.declared.limits.TheConstants.{COUNT_LIMIT}
 use Rattle.cg_base.specs.Sets.{IsId}
 use Rattle.cg_action.specs.ActionLimits.{IsAction}
 use Rattle.cg_db.specs.Limits.{IsEntry}
-use Rattle.cg_records.specs.Limits.{Each, IsNumber, IsPrimary}
+use Rattle.cg_base.specs.Lists.{Each}
+use Rattle.cg_records.specs.Limits.{IsNumber, IsPrimary}
 use Rattle.cg_disk_records.specs.Limits.{IsReached}
 use Rattle.cg_join.specs.declared.name.SnapshotName.{SnapshotName}
 use Rattle.cg_join.specs.declared.piece.Label.{Label}

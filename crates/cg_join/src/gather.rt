@@ -1,6 +1,6 @@
 //! What the parts of a snapshot bring, put together.
 ghost use Rattle.std.specs.Prelude.{◌≡◌, fold, IfOk, OnOk};
-ghost use Rattle.cg_records.specs.Limits.{Each};
+ghost use Rattle.cg_base.specs.Lists.{Each};
 ghost use Rattle.cg_join.specs.Limits.{IsPart};
 ghost use Rattle.cg_join.specs.Gathered.{with_part, nothing, IsGathered};
 

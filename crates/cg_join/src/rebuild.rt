@@ -4,7 +4,7 @@ ghost use Rattle.cg_action.specs.ActionLimits.{IsAction};
 ghost use Rattle.cg_client.specs.Replica.{Held};
 ghost use Rattle.cg_db.specs.Limits.{AreEntries};
 ghost use Rattle.cg_db.specs.Ascending.{Ascends};
-ghost use Rattle.cg_records.specs.Limits.{Each};
+ghost use Rattle.cg_base.specs.Lists.{Each};
 ghost use Rattle.cg_join.specs.Limits.{IsHead};
 ghost use Rattle.cg_join.specs.Finishing.{IsSnapshotFor};
 ghost use Rattle.cg_store.specs.Leading.{LeadTo};

@@ -4,7 +4,8 @@ ghost use Rattle.cg_base.specs.declared.limits.TheConstants.{COUNT_LIMIT};
 ghost use Rattle.cg_action.specs.ActionLimits.{IsAction};
 ghost use Rattle.cg_db.specs.Limits.{AreEntries};
 ghost use Rattle.cg_db.specs.Ascending.{Ascends};
-ghost use Rattle.cg_records.specs.Limits.{Each, IsNumber};
+ghost use Rattle.cg_base.specs.Lists.{Each};
+ghost use Rattle.cg_records.specs.Limits.{IsNumber};
 ghost use Rattle.cg_join.specs.Limits.{IsHead, IsPiece};
 ghost use Rattle.cg_join.specs.Snapshot.{head_of, parts_of, with_green_part, with_entry_part, piece_at, bytes_at};
 

@@ -6,7 +6,7 @@ use Rattle.std.specs.Prelude.{ℤ, ◌==◌}
 use Rattle.std.specs.Fmt.{signed_decimal}
 use Rattle.cg_text.specs.Numbers.{is_digit}
 use Rattle.cg_text.specs.Quoted.{quoted}
-use Rattle.cg_records.specs.Limits.{Each}
+use Rattle.cg_base.specs.Lists.{Each}
 use Rattle.cg_action.specs.declared.value.Value.{Value}
 use Rattle.cg_action.specs.declared.value.Value.TheVariants.{Text, Int}
 use Rattle.cg_action.specs.declared.command.Cmd.{Cmd}

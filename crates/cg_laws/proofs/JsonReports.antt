@@ -11,7 +11,7 @@ use Rattle.serde_json.specs.Data.{string}
 use Rattle.serde_json.specs.View.{items_of}
 use Rattle.serde_json.specs.Written.{comma_if, items_text}
 use Rattle.cg_base.specs.Text.{is_nil}
-use Rattle.cg_records.specs.Limits.{Each}
+use Rattle.cg_base.specs.Lists.{Each}
 use Rattle.cg_report.specs.declared.entry.Entry.{Entry}
 use Rattle.cg_report.specs.EntryText.{is_silent, entry_text, body_text}
 use Rattle.cg_json.specs.JsonText.{lines_of, step_object, object_line, entry_json, tail_json}

@@ -4,7 +4,7 @@ use Rattle.std.specs.Fmt.{digit_glyph, digits_onto, digits}
 use Rattle.std.specs.List.{list_all}
 use Rattle.std.specs.Option.{option_map_or}
 use Rattle.std.proofs.lemmas.Bool.{cond_both, ne_eqb, not-true}
-use Rattle.cg_records.specs.Limits.{Each}
+use Rattle.cg_base.specs.Lists.{Each}
 use Rattle.cg_group.specs.declared.reason.Reason.{Reason}
 use Rattle.cg_group.specs.Reasons.{reason_numbers}
 use Rattle.cg_outcome.specs.declared.status.Limit.{Limit}

@@ -5,7 +5,7 @@ use Rattle.std.specs.Prelude.{◌==◌, if◌then◌else◌}
 use Rattle.cg_base.specs.declared.action_id.ActionId.{ActionId}
 use Rattle.cg_base.specs.declared.weighted.Weighted.{Weighted}
 use Rattle.cg_base.specs.Text.{set_text, weighted_text, weight_set_text, id_text, id_list_text}
-use Rattle.cg_records.specs.Limits.{Each}
+use Rattle.cg_base.specs.Lists.{Each}
 use Rattle.cg_text.specs.Numbers.{is_digit}
 use Rattle.cg_short.specs.Short.{IsShort, IsShortId, IsShortMember}
 use Rattle.cg_laws.proofs.Separating.{Separates, anything, begins_without, begins, one, same_first, after, before, joined, on, same, IsBetweenCommas, with_commas-apart}

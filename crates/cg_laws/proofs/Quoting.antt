@@ -1,6 +1,6 @@
 -- A text between quotes is told apart before anything.
 use Rattle.std.proofs.Common.{◌≡◌, ℕ, Bool, true, false, cond, not, eqb, List, [], ◌∷◌, ◌++◌, flat_map, refl, sym, ap, ◌∙◌, ◌||◌, true≢false}
-use Rattle.cg_records.specs.Limits.{Each}
+use Rattle.cg_base.specs.Lists.{Each}
 use Rattle.cg_text.specs.Quoted.{is_special, escaped, quoted}
 use Rattle.cg_laws.proofs.Separating.{Separates, anything, begins, any, one, same_first, each_any, after, before, within, listed}
 

@@ -5,7 +5,7 @@ use Rattle.std.proofs.lemmas.List.{append_cancel_left}
 use Rattle.cg_base.specs.declared.action_id.ActionId.{ActionId}
 use Rattle.cg_base.specs.Text.{id_list_text}
 use Rattle.cg_text.specs.Numbers.{is_digit}
-use Rattle.cg_records.specs.Limits.{Each}
+use Rattle.cg_base.specs.Lists.{Each}
 use Rattle.cg_action.specs.declared.answer.Answer.{Answer}
 use Rattle.cg_action.specs.declared.answer.Answer.TheVariants.{Absent, Text, Int, Keys, Count}
 use Rattle.cg_action.specs.declared.effect.Effect.{Effect}

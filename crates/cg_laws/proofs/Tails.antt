@@ -3,7 +3,7 @@ use Rattle.std.proofs.Common.{◌≡◌, ◌⊎◌, ℕ, suc, ◌+◌, ◌<◌, 
 use Rattle.std.proofs.lemmas.Bool.{cond_both}
 use Rattle.std.proofs.lemmas.List.{append-nil}
 use Rattle.cg_base.specs.Text.{is_nil}
-use Rattle.cg_records.specs.Limits.{Each}
+use Rattle.cg_base.specs.Lists.{Each}
 use Rattle.cg_report.specs.declared.entry.Entry.{Entry}
 use Rattle.cg_report.specs.EntryText.{made_text, made_line, order_text, order_line, ended_line, reply_text, reply_line, shown_text, shown_line, body_text, is_silent, entry_text}
 use Rattle.cg_report.specs.LineText.{line_text}

@@ -4,7 +4,7 @@ use Rattle.std.specs.Str.{is_utf8}
 use Rattle.std.proofs.lemmas.Bool.{le-ltb}
 use Rattle.cg_base.specs.Sets.{IsId}
 use Rattle.cg_text.specs.Tokens.{tokens, tokens_from}
-use Rattle.cg_group.specs.EachLaws.{Each}
+use Rattle.cg_base.specs.Lists.{Each}
 use Rattle.cg_schedule.specs.declared.event.Event.{Event}
 use Rattle.cg_schedule.specs.declared.event.Event.TheVariants.{End}
 use Rattle.cg_schedule.specs.declared.fault.LineFault.{LineFault}

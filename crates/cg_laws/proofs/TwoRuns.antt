@@ -3,7 +3,7 @@ use Rattle.std.proofs.Common.{◌≡◌, ℕ, suc, ◌+◌, ◌≤◌, List, [],
 use Rattle.std.specs.Io.KnownBytes.{Appends}
 use Rattle.std.proofs.lemmas.List.{append_cancel_left, append_cancel_right}
 use Rattle.cg_io.specs.Outside.{SinkView}
-use Rattle.cg_records.specs.Limits.{Each}
+use Rattle.cg_base.specs.Lists.{Each}
 use Rattle.cg_short.specs.Short.{IsShortEntry}
 use Rattle.cg_report.specs.EntryText.{entry_text}
 use Rattle.cg_json.specs.JsonText.{entry_json, tail_json}
@@ -31,6 +31,7 @@ use Rattle.cg_laws.specs.Told.{report_text, IsTranscript, WholeReportsTellTheirT
 use Rattle.cg_laws.specs.ToldJson.{report_json, WholeJsonReportsTellTheirTranscripts}
 use Rattle.cg_laws.specs.TwoRuns.{HasPut, come_to, shown_by, last_line, RunsTell}
 use Rattle.cg_laws.proofs.LastLines.{tail-is}
+use Rattle.cg_outcome.specs.CompleteLaws.{has-found}
 
 -- ---- the items of a run are numbered, and few, and where nothing stands beside the world they have no further lines
 
@@ -85,15 +86,6 @@ all-put : (text : List ℕ) (found : Option Status) (v v' : SinkView) (st : Stat
 all-put text found v v' status.WriteFault finding stopped = absurd finding
 all-put text found v v' status.NoMemory finding stopped = absurd finding
 all-put text found v v' other finding stopped = stopped
-
--- a part with a status has a finding
-has-found : (p : Produced) (st : Status) → status_of p ≡ Some st → (f : Finding) × (p.found ≡ Some f)
-has-found p st is = by_finding p.found refl where
-  by_finding : (o : Option Finding) → p.found ≡ o → (f : Finding) × (p.found ≡ Some f)
-  by_finding None e =
-      absurd (let clash : None ≡
-      Some st = sym (ap (λ (found : Option Finding). status_of (record p { found = found })) e) ∙ is in cc)
-  by_finding (Some f) e = (f, e)
 
 -- the report of the items, and a finding's tail
 pub record Told (report : Report) (p : Produced) (bytes : List ℕ) : Type 0 where

@@ -10,7 +10,7 @@ use Rattle.std.proofs.lemmas.Int.{fits_signed_from_abs}
 use Rattle.std.proofs.lemmas.List.Elements.{All-nil, All-cons}
 use Rattle.std.proofs.lemmas.Str.{IsUtf8-append, IsUtf8-nil, IsUtf8-encode, encode_ascii}
 use lib.Utf8.{low_scalar}
-use Rattle.cg_base.specs.Lists.{count_up}
+use Rattle.cg_base.specs.Lists.{count_up, Each}
 use Rattle.cg_base.specs.Sets.{IsId, IsSet, Ascends, has, with_member, without_member, union}
 use Rattle.cg_base.specs.SetLaws.{Ascends-with_member, Ascends-union, Ascends-filter}
 use Rattle.cg_base.specs.Weights.{IsWeightSet, Weigh, each_once}
@@ -21,7 +21,7 @@ use Rattle.cg_action.specs.declared.command.Cmd.TheVariants.{Put, Inc}
 use Rattle.cg_action.specs.declared.query.Query.{Query}
 use Rattle.cg_action.specs.declared.query.Query.TheVariants.{Get}
 use Rattle.cg_action.specs.declared.value.Value.TheVariants.{Int}
-use Rattle.cg_group.specs.EachLaws.{Each, Each-filter}
+use Rattle.cg_group.specs.EachLaws.{Each-filter}
 use Rattle.cg_schedule.specs.declared.event.Event.{Event}
 use Rattle.cg_schedule.specs.declared.event.Event.TheVariants.{Split, Merge, Gather}
 use Rattle.cg_schedule.specs.declared.reader_state.ReaderState.{ReaderState}

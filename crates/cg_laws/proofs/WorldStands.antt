@@ -10,7 +10,7 @@ use Rattle.cg_group.specs.declared.phase.Phase.{Phase}
 use Rattle.cg_group.specs.declared.phase.Phase.TheVariants.{Alone}
 use Rattle.cg_group.specs.declared.delivery.Handed.{Handed}
 use Rattle.cg_group.specs.Events.{HandedOut, send_all, come_up, go_down}
-use Rattle.cg_group.specs.EachLaws.{Each}
+use Rattle.cg_base.specs.Lists.{Each}
 use Rattle.cg_group.specs.LookupLaws.{at-cond, put, put-own, eqb_comm}
 use Rattle.cg_client.specs.Replica.{Replica, fresh}
 use Rattle.cg_model.specs.ReplicaStep.{Input, Deliveries, replica_step}

@@ -1,6 +1,7 @@
 -- That a report tells what its steps have shown.
 use Rattle.std.specs.Prelude.{◌≡◌, ◌==◌, ℕ, suc, false, List, [], ◌∷◌, ◌++◌, length, if◌then◌else◌}
-use Rattle.cg_records.specs.Limits.{Each}
+use Rattle.cg_base.specs.Ascii.{LINE_FEED}
+use Rattle.cg_base.specs.Lists.{Each}
 use Rattle.cg_report.specs.declared.entry.Entry.{Entry}
 use Rattle.cg_report.specs.EntryText.{is_silent, entry_text}
 use Rattle.cg_short.specs.Short.{IsShort, IsShortEntry}
@@ -33,8 +34,8 @@ ReportsTellTheirTranscripts = (es fs : List Entry) → IsTranscript es → IsTra
 -- the last line that a run puts: one line, with its end
 pub record IsTail (tail : List ℕ) : Type 0 where
   pub line : List ℕ
-  pub whole : tail ≡ line ++ 10 ∷ []
-  pub alone : Each (λ byte. (byte == 10) ≡ false) line
+  pub whole : tail ≡ line ++ LINE_FEED ∷ []
+  pub alone : Each (λ byte. (byte == LINE_FEED) ≡ false) line
 
 -- the same of reports with their tails, and the tails are one
 abbrev pub WholeReportsTellTheirTranscripts : Type 0

@@ -1,6 +1,6 @@
 ghost use Rattle.std.specs.Prelude.{IfOk};
 ghost use Rattle.cg_action.specs.ActionLimits.{IsAction};
-ghost use Rattle.cg_records.specs.Limits.{Each};
+ghost use Rattle.cg_base.specs.Lists.{Each};
 
 use cg_action::{Action, ActionList, Cmd, CmdList, Kind};
 use cg_base::{ActionId, NoMemory, ReplicaId};

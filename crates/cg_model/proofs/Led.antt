@@ -11,7 +11,7 @@ use Rattle.cg_base.specs.IdLaws.{same_id-is, same_id-back, same_id-self}
 use Rattle.cg_action.specs.declared.action.Action.{Action}
 use Rattle.cg_queue.specs.Queue.{names_of, with_red, without_action, placed_red, action_of}
 use Rattle.cg_records.specs.declared.primary.Primary.{Primary}
-use Rattle.cg_records.specs.Limits.{Each}
+use Rattle.cg_base.specs.Lists.{Each}
 use Rattle.cg_client.specs.Replica.{Held}
 use Rattle.cg_client.specs.Turn.{Turn}
 use Rattle.cg_client.specs.Marks.{is_unmade, after_first, with_green, unknown_in, newly_known, place_green}

@@ -1,7 +1,7 @@
 -- A whole event: what holds is kept, and its change leads from what stands on the disk to what is held behind it.
 use Rattle.std.proofs.Common.{List, [], ◌∷◌, ◌++◌, fold, Bool, true, false, refl, if◌then◌else◌}
 use Rattle.cg_action.specs.declared.action.Kind.{Kind}
-use Rattle.cg_records.specs.Limits.{Each}
+use Rattle.cg_base.specs.Lists.{Each}
 use Rattle.cg_wire.specs.declared.message.Msg.{Msg}
 use Rattle.cg_wire.specs.declared.message.Msg.TheVariants.{Action as ActionMsg, State as StateMsg, GreenItem, RedItem, Cpc}
 use Rattle.cg_group.specs.declared.delivery.Delivery.{Delivery}

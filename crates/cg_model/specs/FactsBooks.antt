@@ -7,7 +7,7 @@ use Rattle.cg_base.specs.Sets.{is_within}
 use Rattle.cg_action.specs.declared.action.Action.{Action}
 use Rattle.cg_queue.specs.Queue.{names_of}
 use Rattle.cg_wire.specs.declared.message.Msg.{Msg}
-use Rattle.cg_group.specs.EachLaws.{Each}
+use Rattle.cg_base.specs.Lists.{Each}
 use Rattle.cg_group.specs.State.{configuration, unordered_of}
 use Rattle.cg_client.specs.Replica.{Held, created}
 use Rattle.cg_disk_records.specs.Holds.{Rising}

@@ -42,3 +42,5 @@ pub mod Hearing
 pub mod HearingLaws
 pub mod Recorded
 pub mod Following
+pub mod MadeLaws
+pub mod RunLaws

@@ -1,7 +1,7 @@
 -- What the step of an event shows as made: each action as it was made, the next of its creator, in the book.
 use Rattle.std.specs.Prelude.{◌≡◌, ℕ, suc, ◌+◌, ◌==◌, List, [], ◌∷◌, None, Contains, filter, length, map}
 use Rattle.std.specs.Option.{option_map_or}
-use Rattle.cg_group.specs.EachLaws.{Each}
+use Rattle.cg_base.specs.Lists.{Each}
 use Rattle.cg_base.specs.Cuts.{index_in}
 use Rattle.cg_action.specs.declared.action.Action.{Action}
 use Rattle.cg_report.specs.declared.entry.Made.{Made}

@@ -8,7 +8,7 @@ use Rattle.cg_wire.specs.declared.message.Msg.TheVariants.{Action as ActionMsg, 
 use Rattle.cg_group.specs.declared.delivery.Delivery.{Delivery}
 use Rattle.cg_group.specs.declared.delivery.Delivery.TheVariants.{Message}
 use Rattle.cg_queue.specs.Queue.{green_count}
-use Rattle.cg_records.specs.Limits.{Each}
+use Rattle.cg_base.specs.Lists.{Each}
 use Rattle.cg_client.specs.Replica.{Held, Replica}
 use Rattle.cg_disk_records.specs.Stored.{Stored, stored_of, whiten, recovery_turn}
 use Rattle.cg_disk_records.specs.Following.{IsAhead, IsRecorded}

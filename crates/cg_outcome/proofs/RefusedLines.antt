@@ -3,9 +3,8 @@ use Rattle.std.proofs.Common.{◌≡◌, ℕ, zero, suc, ◌+◌, ◌==◌, ◌-
 use Rattle.std.specs.List.{prefix_len}
 use Rattle.std.specs.Option.{option_map_or}
 use Rattle.std.proofs.lemmas.Bool.{cond_both, le-ltb, false≢true}
-use Rattle.cg_base.specs.Lists.{count_up, first_some}
+use Rattle.cg_base.specs.Lists.{count_up, first_some, Each}
 use Rattle.cg_base.specs.Text.{pieces_of, is_nil}
-use Rattle.cg_records.specs.Limits.{Each}
 use Rattle.cg_wire.specs.declared.message.Msg.{Msg}
 use Rattle.cg_group.specs.declared.phase.Phase.TheVariants.{Down}
 use Rattle.cg_group.specs.declared.reason.Reason.{Reason}

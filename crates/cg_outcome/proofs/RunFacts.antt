@@ -52,16 +52,10 @@ use Rattle.cg_outcome.specs.UnderWay.{IsUnderWay}
 use Rattle.cg_outcome.specs.AskedLaws.{may_ask, before_under_way}
 use Rattle.cg_outcome.specs.FurtherLaws.{StandsFor, AreExact, further-own, further-stands, placed_started}
 use Rattle.cg_outcome.specs.GoingOnLaws.{and_then-some}
+use Rattle.cg_base.specs.ElementLaws.{present-append}
+use Rattle.cg_items.specs.ItemLaws.{steps-append}
 
 -- ---- items one after another
-
-present-append : {X : Type 0} (a b : List (Option X)) → present (a ++ b) ≡ present a ++ present b
-present-append [] b = refl
-present-append (None ∷ a) b = present-append a b
-present-append (Some x ∷ a) b = ap (λ xs. x ∷ xs) (present-append a b)
-
-steps_of-append : (a b : List Item) → steps_of (a ++ b) ≡ steps_of a ++ steps_of b
-steps_of-append a b = ap present (map-append (λ (i : Item). i.step) a b) ∙ present-append (map (λ (i : Item). i.step) a) (map (λ (i : Item). i.step) b)
 
 world_after-append : (w : World) (a b : List Step) → world_after w (a ++ b) ≡ world_after (world_after w a) b
 world_after-append w [] b = refl
@@ -248,7 +242,7 @@ Holds-and_then s p more h later = by_finding p.found refl where
       let noted = subst (λ (w : World). AreNoted w p.progress.companion p.progress.count q.items) h.world k.noted in
       let beside = subst (λ (c : Companion). AreNoted (world_after s.world (steps_of p.items)) c p.progress.count q.items) h.kept noted in
       let numbered = subst (λ (n : ℕ). AreNoted (world_after s.world (steps_of p.items)) (kept_behind s.world s.companion p.items) n q.items) h.count beside in
-      let both = steps_of-append p.items q.items in
+      let both = steps-append p.items q.items in
       rw e record {
         is_run = subst (IsRunFrom s.world) (sym both) (IsRunFrom-append s.world (steps_of p.items) (steps_of q.items) h.is_run run);
         noted = AreNoted-append s.world s.companion s.count p.items q.items h.noted numbered;

@@ -176,7 +176,7 @@ front-taken None all taken consumed = absurd consumed
 front-taken (Some rest) all taken consumed = (rest, consumed)
 
 -- a part with a status has a finding
-has-found : (p : Produced) (st : Status) → status_of p ≡ Some st → (f : Finding) × (p.found ≡ Some f)
+pub has-found : (p : Produced) (st : Status) → status_of p ≡ Some st → (f : Finding) × (p.found ≡ Some f)
 has-found p st is = by_finding p.found refl where
   by_finding : (o : Option Finding) → p.found ≡ o → (f : Finding) × (p.found ≡ Some f)
   by_finding None e =

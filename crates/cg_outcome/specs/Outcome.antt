@@ -3,6 +3,7 @@ use Rattle.std.specs.Prelude.{ℕ, ◌+◌, ◌-◌, nat_lt, nat_eq, take, Resul
 use Rattle.std.specs.Option.{option_map_or}
 use Rattle.cg_base.specs.Text.{pieces_of}
 use Rattle.std.specs.List.{ends_with}
+use Rattle.cg_base.specs.Ascii.{LINE_FEED}
 use Rattle.cg_outcome.specs.declared.limits.TheConstants.{INPUT_BYTES, LINES, LINE_BYTES}
 use Rattle.cg_schedule.specs.declared.event.Event.{Event}
 use Rattle.cg_schedule.specs.declared.event.Event.TheVariants.{End}
@@ -133,7 +134,7 @@ lines_alone events = map line_of events ++ [] ∷ []
 -- the lines of the schedule that a command replays
 abbrev pub pieces_for : Option Command → List ℕ → List (List ℕ)
 pieces_for (Some (Trial seed replicas lines)) taken = lines_alone (generated seed replicas lines)
-pieces_for other taken = pieces_of 10 taken
+pieces_for other taken = pieces_of LINE_FEED taken
 
 -- what a trial puts of a finding: the summary where the run is done, else the tail
 abbrev pub trial_end : Status → ℕ → ℕ → Totals → List ℕ
@@ -157,7 +158,7 @@ outcome_of None taken how = ended_with status.Usage 0 (before_all Alone)
 outcome_of (Some (Generate seed replicas lines)) taken how = ended_with status.Done 0 (before_all Alone)
 outcome_of (Some (Trial seed replicas lines)) taken how =
     performed 0 (generated seed replicas lines) (before_all Alone)
-outcome_of command taken how = replayed 1 0 (pieces_of 10 taken) how (before_all (companion_for command))
+outcome_of command taken how = replayed 1 0 (pieces_of LINE_FEED taken) how (before_all (companion_for command))
 
 -- the whole run
 abbrev pub outcome : List (List ℕ) → List ℕ → Ending → Produced

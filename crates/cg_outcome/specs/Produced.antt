@@ -2,6 +2,7 @@
 -- first finding ends the run.
 use Rattle.std.specs.Prelude.{ℕ, ◌+◌, nat_lt, List, [], ◌∷◌, ◌++◌, Option, Some, None, option_map, option_and_then, if◌then◌else◌}
 use Rattle.std.specs.Option.{option_map_or}
+use Rattle.cg_base.specs.Ascii.{LINE_FEED}
 use Rattle.cg_group.specs.declared.reason.Reason.{Reason}
 use Rattle.cg_schedule.specs.declared.event.Event.{Event}
 use Rattle.cg_schedule.specs.declared.reader_state.ReaderState.{ReaderState}
@@ -63,7 +64,7 @@ tail_in other status steps lines = tail_text status steps lines
 
 -- what is told of logs, as a line of its own
 abbrev pub logs_text : List Log → List ℕ
-logs_text logs = joined_text (join_logs logs) ++ 10 ∷ []
+logs_text logs = joined_text (join_logs logs) ++ LINE_FEED ∷ []
 
 -- what a run puts at its end: the tail, but for what its logs come to, where it is done
 abbrev pub done_in : Report → ℕ → Progress → List ℕ

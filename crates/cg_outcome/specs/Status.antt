@@ -1,6 +1,7 @@
 -- The tail that each status puts.
 use Rattle.std.specs.Prelude.{ℕ, List, [], ◌∷◌, ◌++◌, codes, decimal}
 use Rattle.std.specs.Option.{option_map_or}
+use Rattle.cg_base.specs.Ascii.{LINE_FEED}
 use Rattle.cg_group.specs.declared.reason.Reason.{Reason}
 use Rattle.cg_group.specs.Reasons.{reason_numbers}
 use Rattle.cg_outcome.specs.declared.status.Status.{Status}
@@ -38,4 +39,4 @@ tail_line (status.NoEnd all) steps lines = codes "no end " ++ decimal all
 tail_line other steps lines = []
 
 abbrev pub tail_text : Status → ℕ → ℕ → List ℕ
-tail_text status steps lines = tail_line status steps lines ++ 10 ∷ []
+tail_text status steps lines = tail_line status steps lines ++ LINE_FEED ∷ []

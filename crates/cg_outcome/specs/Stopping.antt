@@ -1,7 +1,7 @@
 -- What putting a part of a run comes to: it was cut short, the run has ended, or it goes on with the rest.
 use Rattle.std.specs.Prelude.{◌≡◌, ℕ, List, ⊤}
 use Rattle.cg_io.specs.Outside.{SinkView, PutsAll}
-use Rattle.cg_records.specs.Limits.{Each}
+use Rattle.cg_base.specs.Lists.{Each}
 use Rattle.cg_short.specs.Short.{IsShortEntry}
 use Rattle.cg_items.specs.Items.{Item, entry_of, report_in}
 use Rattle.cg_outcome.specs.Produced.{Produced, prepend, text_of, status_of}

@@ -3,6 +3,7 @@
 use Rattle.std.specs.Prelude.{suc, ◌≡◌, ◌<◌, ◌≤◌, ◌+◌, ◌==◌, ℕ, false, List, [], ◌∷◌, ◌++◌, length, take, Option, Some, None, Result, MatchResult}
 use Rattle.std.specs.List.{All}
 use Rattle.std.specs.Io.KnownBytes.{Consumes}
+use Rattle.cg_base.specs.Ascii.{LINE_FEED}
 use Rattle.cg_outcome.specs.declared.limits.TheConstants.{INPUT_BYTES, LINES, LINE_BYTES}
 use Rattle.cg_base.specs.Text.{pieces_of}
 use Rattle.cg_io.specs.Outside.{SourceView, SinkView}
@@ -32,11 +33,11 @@ first_stage c = record { line = 1; at = 0; progress = before_all c }
 
 -- what these bytes come to from a stage on
 abbrev pub from_stage : Stage → List ℕ → Ending → Produced
-from_stage st bytes how = replayed st.line st.at (pieces_of 10 bytes) how st.progress
+from_stage st bytes how = replayed st.line st.at (pieces_of LINE_FEED bytes) how st.progress
 
 -- no line ends in these bytes
 abbrev pub IsUnended : List ℕ → Type 0
-IsUnended bytes = All (λ b. (b == 10) ≡ false) bytes
+IsUnended bytes = All (λ b. (b == LINE_FEED) ≡ false) bytes
 
 -- the limit that a line passes of which these bytes were taken
 abbrev pub held_limit : ℕ → ℕ → List ℕ → Option Limit

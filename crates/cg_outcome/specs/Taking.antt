@@ -1,6 +1,7 @@
 -- How what was taken stands to the bytes that the input had left, and what holds of all that a run comes to.
 use Rattle.std.specs.Prelude.{◌≡◌, ◌⊎◌, ◌+◌, ◌++◌, true, ℕ, zero, suc, List, [], ◌∷◌, ◌≤◌, length, take, Option, Some, None}
 use Rattle.std.specs.Io.KnownBytes.{Consumes, IsAtEnd}
+use Rattle.cg_base.specs.Ascii.{LINE_FEED}
 use Rattle.cg_outcome.specs.declared.limits.TheConstants.{INPUT_BYTES, TAKE_BYTES}
 use Rattle.cg_base.specs.Text.{pieces_of}
 use Rattle.cg_io.specs.Outside.{SourceView, SinkView, PutsAll}
@@ -83,7 +84,7 @@ pub record Runs (command : Option Command) (old new : SourceView) (from to : Sin
       (status_of (outcome_of command taken ending)) from to status
   pub in_time : InTime (text_put command) (λ front. outcome_of command front Open) taken from to
   pub short : ShowsShort command (outcome_of command taken ending) status
-  pub near : (n : ℕ) → found_in status ≡ Some n → length taken ≤ end_of_line n (pieces_of 10 taken) + most_at_once
+  pub near : (n : ℕ) → found_in status ≡ Some n → length taken ≤ end_of_line n (pieces_of LINE_FEED taken) + most_at_once
 
 -- no limit is passed that lines and inputs have: the limit of steps may be
 abbrev pub IsWithinLimits : Option Status → Type 0

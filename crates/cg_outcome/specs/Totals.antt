@@ -1,6 +1,7 @@
 -- What the entries of a run have shown, in numbers, and the summary that tells it.
 use Rattle.std.specs.Prelude.{ℕ, ◌+◌, max, List, [], ◌∷◌, ◌++◌, length, fold, codes, decimal}
 use Rattle.std.specs.Option.{option_map_or}
+use Rattle.cg_base.specs.Ascii.{LINE_FEED}
 use Rattle.cg_report.specs.declared.entry.Entry.{Entry}
 use Rattle.cg_report.specs.declared.line.Line.{Line}
 use Rattle.cg_outcome.specs.declared.totals.Totals.{Totals}
@@ -23,7 +24,7 @@ with_entry t entry = record {
 
 -- a word and its number, with the line's end
 abbrev pub counted : List ℕ → ℕ → List ℕ
-counted word n = word ++ (decimal n ++ 10 ∷ [])
+counted word n = word ++ (decimal n ++ LINE_FEED ∷ [])
 
 -- the five lines of a summary, after so many steps
 abbrev pub summary_text : ℕ → Totals → List ℕ

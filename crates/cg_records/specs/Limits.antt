@@ -10,6 +10,7 @@ use Rattle.cg_records.specs.declared.primary.Primary.{Primary}
 use Rattle.cg_records.specs.declared.vulnerable.Vulnerable.{Vulnerable}
 use Rattle.cg_records.specs.declared.yellow.Yellow.{Yellow}
 use Rattle.cg_records.specs.declared.stable.Stable.{Stable}
+use Rattle.cg_base.specs.Lists.{Each}
 
 -- a count, an index or the number of a configuration
 abbrev pub IsNumber : ℕ → Type 0
@@ -22,11 +23,6 @@ IsIndex n = (1 ≤ n) × (n < NUMBER_LIMIT)
 -- a name of an action
 abbrev pub IsName : ActionId → Type 0
 IsName id = IsId id.creator × IsIndex id.index
-
--- it holds of each of them
-abbrev pub Each : {X : Type 0} → (X → Type 0) → List X → Type 0
-Each P [] = Unit {0}
-Each P (x ∷ xs) = P x × Each P xs
 
 -- a cut whose indexes are small
 pub record IsSmallCut (cut : List ActionId) : Type 0 where

@@ -22,7 +22,8 @@ use Rattle.cg_records.specs.declared.primary.Primary.{Primary}
 use Rattle.cg_records.specs.declared.vulnerable.Vulnerable.{Vulnerable}
 use Rattle.cg_records.specs.declared.yellow.Yellow.{Yellow}
 use Rattle.cg_records.specs.declared.stable.Stable.{Stable}
-use Rattle.cg_records.specs.Limits.{IsNumber, IsIndex, IsName, Each, IsSmallCut, IsPrimary, IsVulnerable, IsMaybeVulnerable, IsYellow, IsStable}
+use Rattle.cg_base.specs.Lists.{Each}
+use Rattle.cg_records.specs.Limits.{IsNumber, IsIndex, IsName, IsSmallCut, IsPrimary, IsVulnerable, IsMaybeVulnerable, IsYellow, IsStable}
 use Rattle.cg_codec.specs.Fields.{spelled_id}
 use Rattle.cg_records.specs.Bytes.{spelled_set, spelled_names, spelled_cut, spelled_weighted, spelled_weight_set, spelled_prim, spelled_vulnerable, spelled_yellow, spelled_stable}
 use Rattle.cg_records.specs.Reading.{take_number, take_index, take_id_above, last_of, take_set, take_weight, take_weighted_above, take_weight_set, take_name_above, take_cut, take_names, take_prim, take_vulnerable, take_maybe_vulnerable, take_yellow, take_stable}

@@ -13,6 +13,9 @@ mod CaseJson
 mod CaseLimits
 mod CaseGuarantees
 mod Refuted
+mod SessionsRefuted
+mod FollowersRefuted
+mod RelaxedRefuted
 mod Cases01
 mod Cases02
 mod Cases03
@@ -61,6 +64,3 @@ mod Relaxed03
 mod Relaxed04
 mod Relaxed05
 mod Compare01
-mod SessionsRefuted
-mod FollowersRefuted
-mod RelaxedRefuted

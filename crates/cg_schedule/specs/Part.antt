@@ -1,5 +1,6 @@
 -- What one token of a line may be.
 use Rattle.std.specs.Prelude.{ℕ, ◌+◌, ◌-◌, ◌*◌, ◌==◌, nat_lt, nat_le, Bool, false, ◌&&◌, ◌||◌, List, [], ◌∷◌, ◌++◌, Option, Some, None, Result, Ok, Err, ℤ, pos, negsuc, codes, length, if◌then◌else◌}
+use Rattle.cg_base.specs.Ascii.{QUOTE, ZERO, SMALL_A, SMALL_F}
 use Rattle.cg_base.specs.declared.weighted.Weighted.{Weighted}
 use Rattle.cg_base.specs.Text.{pieces_of}
 use Rattle.cg_text.specs.declared.fault.TextFault.{TextFault}
@@ -71,7 +72,7 @@ text low high token = long_enough low (read_quoted high token)
 -- the token begins with a quote
 abbrev pub is_quoted : List ℕ → Bool
 is_quoted [] = false
-is_quoted (byte ∷ bytes) = byte == 34
+is_quoted (byte ∷ bytes) = byte == QUOTE
 
 abbrev pub text_value : Result (List ℕ) LineFault → Result Value LineFault
 text_value (Ok t) = Ok (Text t)
@@ -96,8 +97,8 @@ want token = if same_text token (codes "absent") then Ok None else some_value (v
 -- the value of a hexadecimal digit
 abbrev pub hex_digit : ℕ → Option ℕ
 hex_digit byte =
-    if is_digit byte then Some (byte - 48)
-    else if nat_le 97 byte && nat_le byte 102 then Some (byte - 87)
+    if is_digit byte then Some (byte - ZERO)
+    else if nat_le SMALL_A byte && nat_le byte SMALL_F then Some (byte - 87)
     else None
 
 -- the byte of two digits

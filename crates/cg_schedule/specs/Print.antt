@@ -1,5 +1,6 @@
 -- The line that spells an event.
 use Rattle.std.specs.Prelude.{ℕ, ◌+◌, ◌/◌, ◌%◌, nat_lt, List, [], ◌∷◌, ◌++◌, codes, decimal, flat_map, if◌then◌else◌}
+use Rattle.cg_base.specs.Ascii.{ZERO}
 use Rattle.cg_base.specs.declared.weighted.Weighted.{Weighted}
 use Rattle.cg_base.specs.Text.{weighted_text}
 use Rattle.cg_action.specs.Print.{query_text, update_text}
@@ -15,7 +16,7 @@ member_behind m = codes " " ++ weighted_text m.id m.weight
 
 -- the digit of a number below 16
 abbrev pub hex_glyph : ℕ → ℕ
-hex_glyph n = if nat_lt n 10 then 48 + n else 87 + n
+hex_glyph n = if nat_lt n 10 then ZERO + n else 87 + n
 
 -- a byte in two digits
 abbrev pub hex_text : ℕ → List ℕ

@@ -6,7 +6,7 @@ use Rattle.cg_base.specs.declared.action_id.ActionId.{ActionId}
 use Rattle.cg_base.specs.declared.weighted.Weighted.{Weighted}
 use Rattle.cg_base.specs.Sets.{IsId, Ascends, IsSet}
 use Rattle.cg_base.specs.Weights.{ids, Weigh, IsWeightSet}
-use Rattle.cg_records.specs.Limits.{Each}
+use Rattle.cg_base.specs.Lists.{Each}
 use Rattle.cg_short.specs.Short.{IsShort, IsShortId, IsShortMember}
 
 ascending-short : (low : ℕ) (set : List ℕ) → Ascends low set → Each IsShort set

@@ -16,7 +16,7 @@ use Rattle.cg_action.specs.declared.effect.Effect.TheVariants.{Done, Aborted, Ra
 use Rattle.cg_action.specs.declared.entry.DbEntry.{DbEntry}
 use Rattle.cg_records.specs.declared.primary.Primary.{Primary}
 use Rattle.cg_records.specs.declared.vulnerable.Vulnerable.{Vulnerable}
-use Rattle.cg_records.specs.Limits.{Each}
+use Rattle.cg_base.specs.Lists.{Each}
 use Rattle.cg_report.specs.declared.line.ShownPhase.{ShownPhase}
 use Rattle.cg_report.specs.declared.line.ShownPhase.TheVariants.{Alone, Regular, Transitional}
 use Rattle.cg_report.specs.declared.line.View.{View}

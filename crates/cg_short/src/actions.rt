@@ -1,6 +1,6 @@
 //! What actions do.
 
-ghost use Rattle.cg_records.specs.Limits.{Each};
+ghost use Rattle.cg_base.specs.Lists.{Each};
 ghost use Rattle.cg_short.specs.Short.{IfAny, IsShortInt, IsShortValue, IsShortCommand, IsShortKind};
 
 use crate::names::{byte_is_short, replica_is_short};

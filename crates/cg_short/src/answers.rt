@@ -1,6 +1,6 @@
 //! What actions did, and what queries found.
 
-ghost use Rattle.cg_records.specs.Limits.{Each};
+ghost use Rattle.cg_base.specs.Lists.{Each};
 ghost use Rattle.cg_short.specs.Short.{IfAny, IsShortEffect, IsShortAnswer, IsShortDbEntry};
 
 use crate::actions::{integer_is_short, value_is_short};

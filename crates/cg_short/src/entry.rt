@@ -1,4 +1,4 @@
-ghost use Rattle.cg_records.specs.Limits.{Each};
+ghost use Rattle.cg_base.specs.Lists.{Each};
 ghost use Rattle.cg_short.specs.Short.{IsShortMade, IsShortPlaced, IsShortReply, IsShortShown, IsShortEntry};
 
 use crate::actions::kind_is_short;

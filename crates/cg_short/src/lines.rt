@@ -1,6 +1,6 @@
 //! Lines of replicas.
 
-ghost use Rattle.cg_records.specs.Limits.{Each};
+ghost use Rattle.cg_base.specs.Lists.{Each};
 ghost use Rattle.cg_short.specs.Short.{IsShort, IfAny, IsShortPhase, IsShortView, IsShortUp, IsShortLine};
 
 use crate::names::{number_is_short, replica_is_short, runs_are_short, set_is_short};

@@ -1,6 +1,6 @@
 //! Names of replicas and of actions.
 
-ghost use Rattle.cg_records.specs.Limits.{Each};
+ghost use Rattle.cg_base.specs.Lists.{Each};
 ghost use Rattle.cg_short.specs.Short.{IsShort, IsShortId, IsShortMember};
 
 use cg_base::{ActionId, IdRuns, IdSet, ReplicaId, WeightSet};

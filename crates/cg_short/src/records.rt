@@ -1,6 +1,6 @@
 //! What a replica's line shows of primary components.
 
-ghost use Rattle.cg_records.specs.Limits.{Each};
+ghost use Rattle.cg_base.specs.Lists.{Each};
 ghost use Rattle.cg_short.specs.Short.{IfAny, IsShortId, IsShortPrimary, IsShortVulnerable};
 
 use crate::names::{ids_are_short, number_is_short, set_is_short, weights_are_short};

@@ -7,7 +7,7 @@ use Rattle.std.proofs.lemmas.Bool.{cases_eq, cases_order, cases_lt, eq-eqb, ne_e
 use Rattle.cg_base.specs.declared.action_id.ActionId.{ActionId}
 use Rattle.cg_base.specs.Sets.{IsId, Ascends}
 use Rattle.cg_base.specs.Replicas.{every_replica}
-use Rattle.cg_base.specs.Lists.{count_up, above_up_to}
+use Rattle.cg_base.specs.Lists.{count_up, above_up_to, Each}
 use Rattle.cg_base.specs.ListLaws.{length-count_up}
 use Rattle.cg_base.specs.Cuts.{index_in, with_top, raise, creators_in}
 use Rattle.cg_base.specs.CutLimits.{IsCut, NameActions}
@@ -17,7 +17,7 @@ use Rattle.cg_base.specs.SetLaws.{each-replica}
 use Rattle.cg_action.specs.declared.action.Action.{Action}
 use Rattle.cg_action.specs.ActionLimits.{IsAction}
 use Rattle.cg_queue.specs.Queue.{QueueView, names_of}
-use Rattle.cg_records.specs.Limits.{Each, IsIndex}
+use Rattle.cg_records.specs.Limits.{IsIndex}
 use Rattle.cg_disk_records.specs.Agreeing.{indexes_of, count_to, counts_up}
 use Rattle.cg_disk_records.specs.NameLaws.{names-within}
 use Rattle.cg_store.specs.Leading.{AreNext, LeadTo, IsBelow}

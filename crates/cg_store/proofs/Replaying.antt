@@ -13,15 +13,11 @@ use Rattle.cg_disk_records.specs.Stored.{Stored}
 use Rattle.cg_disk_records.specs.Following.{know, green_by_name, make, all_of, with_values, after_change}
 use Rattle.cg_disk_records.specs.declared.change.Change.{Change}
 use Rattle.cg_store.specs.Opening.{Follows}
-
--- nothing follows from a state that there is none of
-pub all_of_none : {A : Type 0} (go : Stored → A → Option Stored) (items : List A) → all_of go None items ≡ None
-all_of_none go [] = refl
-all_of_none go (a ∷ items) = all_of_none go items
+use Rattle.cg_disk_records.specs.KnownLaws.{none-all}
 
 -- an item that doesn't fit
 pub stops : {A : Type 0} (go : Stored → A → Option Stored) (s : Stored) (a : A) (items : List A) (total : Option Stored) → go s a ≡ None → all_of go (Some s) (a ∷ items) ≡ total → total ≡ None
-stops go s a items total none all = sym all ∙ ap (λ now. all_of go now items) none ∙ all_of_none go items
+stops go s a items total none all = sym all ∙ ap (λ now. all_of go now items) none ∙ none-all go items
 
 pub are_reds : (q : QueueView) (ids : List ActionId) → list_all (names (names_of q.reds)) ids ≡ true → AreReds q ids
 are_reds q [] all = tt
@@ -47,15 +43,15 @@ pub unknown_none : (s : Stored) (c : Change) → all_of know (Some s) c.known �
 unfolding after_change
 unknown_none s c none =
     ap (λ x. option_and_then (with_values c.stable) (all_of make (all_of green_by_name x c.green) c.made)) none
-    ∙ ap (λ x. option_and_then (with_values c.stable) (all_of make x c.made)) (all_of_none green_by_name c.green)
-    ∙ ap (option_and_then (with_values c.stable)) (all_of_none make c.made)
+    ∙ ap (λ x. option_and_then (with_values c.stable) (all_of make x c.made)) (none-all green_by_name c.green)
+    ∙ ap (option_and_then (with_values c.stable)) (none-all make c.made)
 
 pub ungreen_none : (s t : Stored) (c : Change) → all_of know (Some s) c.known ≡ Some t → all_of green_by_name (Some t) c.green ≡ None → after_change s c ≡ None
 unfolding after_change
 ungreen_none s t c known none =
     ap (λ x. option_and_then (with_values c.stable) (all_of make (all_of green_by_name x c.green) c.made)) known
     ∙ ap (λ x. option_and_then (with_values c.stable) (all_of make x c.made)) none
-    ∙ ap (option_and_then (with_values c.stable)) (all_of_none make c.made)
+    ∙ ap (option_and_then (with_values c.stable)) (none-all make c.made)
 
 pub unmade_none : (s t u : Stored) (c : Change) → all_of know (Some s) c.known ≡ Some t → all_of green_by_name (Some t) c.green ≡ Some u → all_of make (Some u) c.made ≡ None → after_change s c ≡ None
 unfolding after_change

@@ -91,7 +91,7 @@ module _ {D : Type 0} (view : D → DiskView) (k mid : StoreState D) (u v : OnDi
         unstruck = unstruck_more (view k.disk) (view mid.disk) (view disk) first.unstruck refused.unstruck;
       })
 
-whether_true : (b : Bool) (A B : Type 0) → b ≡ true → A → Either b A B
+pub whether_true : (b : Bool) (A B : Type 0) → b ≡ true → A → Either b A B
 whether_true b A B is a = subst (λ x. Either x A B) (sym is) a
 
 whether_false : (b : Bool) (A B : Type 0) → b ≡ false → B → Either b A B

@@ -5,7 +5,8 @@ use Rattle.cg_base.specs.Sets.{IsId}
 use Rattle.cg_base.specs.Cuts.{index_in, raise}
 use Rattle.cg_base.specs.CutLimits.{IsCut}
 use Rattle.cg_action.specs.declared.action.Action.{Action}
-use Rattle.cg_records.specs.Limits.{Each, IsIndex}
+use Rattle.cg_base.specs.Lists.{Each}
+use Rattle.cg_records.specs.Limits.{IsIndex}
 use Rattle.cg_disk_records.specs.Agreeing.{indexes_of, count_to}
 
 -- each name is the next one of its creator, behind a cut and those before it

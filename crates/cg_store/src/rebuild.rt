@@ -2,7 +2,7 @@
 ghost use Rattle.std.specs.Prelude.{◌≡◌, fold, IfOk, OnOk};
 ghost use Rattle.cg_action.specs.ActionLimits.{IsAction};
 ghost use Rattle.cg_queue.specs.Queue.{names_of};
-ghost use Rattle.cg_records.specs.Limits.{Each};
+ghost use Rattle.cg_base.specs.Lists.{Each};
 ghost use Rattle.cg_disk_records.specs.Laws.{AreSaved};
 ghost use Rattle.cg_disk_records.specs.Parts.{stored_in};
 ghost use Rattle.cg_store.specs.Leading.{AreNext};

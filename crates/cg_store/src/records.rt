@@ -1,7 +1,8 @@
 ghost use Rattle.std.specs.Prelude.{◌≡◌, ◌<◌, ◌++◌, length, IfOk};
 ghost use Rattle.cg_base.specs.declared.limits.TheConstants.{LIST_LIMIT, NUMBER_LIMIT};
 ghost use Rattle.cg_action.specs.ActionLimits.{IsAction};
-ghost use Rattle.cg_records.specs.Limits.{Each, IsStable};
+ghost use Rattle.cg_base.specs.Lists.{Each};
+ghost use Rattle.cg_records.specs.Limits.{IsStable};
 ghost use Rattle.cg_disk_records.specs.Change.{spelled_change};
 ghost use Rattle.cg_disk_records.specs.Checkpoint.{spelled_checkpoint};
 ghost use Rattle.cg_disk_records.specs.Limits.{IsChange, IsStored};

@@ -104,7 +104,8 @@ impl<D: Disk> Store<D> {
     ghost use Rattle.cg_journal.specs.Records.{records};
     ghost use Rattle.cg_journal.specs.Opens.{no_records};
     ghost use Rattle.cg_disk_records.specs.Limits.{IsStored};
-    ghost use Rattle.cg_records.specs.Limits.{Each, IsNumber};
+    ghost use Rattle.cg_base.specs.Lists.{Each};
+    ghost use Rattle.cg_records.specs.Limits.{IsNumber};
     ghost use Rattle.cg_disk_records.specs.Commit.{commits};
     ghost use Rattle.cg_disk_records.specs.Stored.{Stored, stored_of};
     ghost use Rattle.cg_disk_records.specs.Checkpoint.{size_limit, spelled_checkpoint};

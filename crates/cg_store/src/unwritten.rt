@@ -1,6 +1,6 @@
 ghost use Rattle.std.specs.Prelude.{◌≡◌, ◌++◌, ◌∷◌, [], OnOk};
 ghost use Rattle.cg_action.specs.ActionLimits.{IsAction};
-ghost use Rattle.cg_records.specs.Limits.{Each};
+ghost use Rattle.cg_base.specs.Lists.{Each};
 
 use cg_action::{Action, ActionList};
 use cg_base::{NoMemory, Row};
@@ -22,7 +22,7 @@ impl Model for Unwritten {
     ghost use Rattle.std.specs.Prelude.{List};
     ghost use Rattle.cg_action.specs.declared.action.Action.{Action};
     ghost use Rattle.cg_action.specs.ActionLimits.{IsAction};
-    ghost use Rattle.cg_records.specs.Limits.{Each};
+    ghost use Rattle.cg_base.specs.Lists.{Each};
 
     ghost Value = { List Action };
 

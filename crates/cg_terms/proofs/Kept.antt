@@ -16,10 +16,12 @@ use Rattle.cg_model.specs.Shown.{made_actions, order_of, ordered_actions, positi
 use Rattle.cg_model.specs.Agreement.{ComesAfter, through, IsDue, OrderGrows, Prefix, CreatorOrder, FoldAnswers, OnePrimary}
 use Rattle.cg_terms.specs.Linearizable.{AllDiffer, replied_in}
 use Rattle.cg_terms.specs.Guarantees.{shown_by, IsPrefixState, Durable, ExactlyOnce, PrefixReads, NoSplitBrain}
-use Rattle.cg_terms.proofs.Places.{contains-none, contains-here, contains-later, contains-cases, contains-map_back, split-at, differ-append, through-append, order-append}
-use Rattle.cg_terms.proofs.Made.{AreMade, actions-more}
+use Rattle.cg_terms.proofs.Places.{contains-map_back, split-at, differ-append}
+use Rattle.cg_model.specs.MadeLaws.{AreMade, actions-more}
 use Rattle.cg_terms.proofs.Counts.{position-within, count-within}
 use Rattle.cg_terms.proofs.Linear.{IsReplyIn, grounds-of, grounds-front, all-made}
+use Rattle.cg_base.specs.ElementLaws.{contains-none, contains-here, contains-later, contains-cases}
+use Rattle.cg_model.specs.RunLaws.{through-append, order-append}
 
 -- ---- fronts of lists
 

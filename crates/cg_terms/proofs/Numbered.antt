@@ -5,7 +5,8 @@ use Rattle.std.proofs.lemmas.Bool.{cases_Bool, cond-true, cond-false}
 use Rattle.cg_base.specs.declared.action_id.ActionId.{ActionId}
 use Rattle.cg_base.specs.Lists.{count_up}
 use Rattle.cg_terms.specs.Linearizable.{AllDiffer}
-use Rattle.cg_terms.proofs.Places.{contains-none, contains-here, contains-later, contains-cases, contains-map}
+use Rattle.cg_terms.proofs.Places.{contains-map}
+use Rattle.cg_base.specs.ElementLaws.{contains-none, contains-here, contains-later, contains-cases}
 
 abbrev is_of : ℕ → ActionId → Bool
 is_of p id = id.creator == p

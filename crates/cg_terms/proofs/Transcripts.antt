@@ -37,7 +37,7 @@ use Rattle.cg_model.specs.Run.{Step}
 use Rattle.cg_queue.specs.Queue.{names_of}
 use Rattle.cg_terms.specs.Linearizable.{AllDiffer, responses, Linearizes, Linearizable, history_of, StronglyLinearizable}
 use Rattle.cg_terms.specs.Guarantees.{IsPrimary, Durable, ExactlyOnce, PrefixReads, NoSplitBrain}
-use Rattle.cg_terms.proofs.Places.{contains-none, contains-here, contains-later, contains-cases}
+use Rattle.cg_base.specs.ElementLaws.{contains-none, contains-here, contains-later, contains-cases}
 
 -- ---- steps that show little
 

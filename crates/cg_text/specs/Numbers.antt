@@ -1,17 +1,18 @@
 -- The numbers that digits spell: plain decimal, without leading zeros.
 use Rattle.std.specs.Prelude.{ℕ, zero, suc, ◌-◌, ◌+◌, ◌*◌, ◌^◌, ◌==◌, nat_lt, nat_le, Bool, false, ◌&&◌, List, [], ◌∷◌, length, Option, Some, None, Result, fold, ℤ, pos, negsuc, option_map, option_and_then, if◌then◌else◌}
 use Rattle.std.specs.List.{list_all}
+use Rattle.cg_base.specs.Ascii.{HYPHEN, ZERO, NINE}
 use Rattle.cg_text.specs.declared.fault.TextFault.{TextFault}
 use Rattle.cg_text.specs.declared.fault.TextFault.TheVariants.{NotANumber, TooLarge}
 use Rattle.cg_text.specs.Fault.{fitting}
 
 -- the byte is a digit
 abbrev pub is_digit : ℕ → Bool
-is_digit byte = nat_le 48 byte && nat_le byte 57
+is_digit byte = nat_le ZERO byte && nat_le byte NINE
 
 -- the number that digits spell behind others
 abbrev pub with_digit : ℕ → ℕ → ℕ
-with_digit n digit = n * 10 + (digit - 48)
+with_digit n digit = n * 10 + (digit - ZERO)
 
 -- the number that digits spell
 abbrev pub value_of_digits : List ℕ → ℕ
@@ -20,7 +21,7 @@ value_of_digits digits = fold with_digit 0 digits
 -- 0 alone, or digits of which the first isn't 0
 abbrev pub is_plain : List ℕ → Bool
 is_plain [] = false
-is_plain (digit ∷ digits) = if digit == 48 then length digits == 0 else list_all is_digit (digit ∷ digits)
+is_plain (digit ∷ digits) = if digit == ZERO then length digits == 0 else list_all is_digit (digit ∷ digits)
 
 -- the number that bytes spell
 abbrev pub plain_number : List ℕ → Option ℕ
@@ -34,7 +35,7 @@ negative (suc n) = Some (negsuc n)
 -- the number that bytes spell, with a - in front where it is below 0
 abbrev pub plain_integer : List ℕ → Option ℤ
 plain_integer [] = None
-plain_integer (byte ∷ bytes) = if byte == 45 then option_and_then negative (plain_number bytes)
+plain_integer (byte ∷ bytes) = if byte == HYPHEN then option_and_then negative (plain_number bytes)
     else option_map pos (plain_number (byte ∷ bytes))
 
 -- the number has room in 64 bits, and so has the number with its sign

@@ -1,25 +1,26 @@
 -- Texts between quotes.
 use Rattle.std.specs.Prelude.{ℕ, ◌==◌, nat_lt, nat_le, Bool, false, ◌||◌, ◌&&◌, not, List, [], ◌∷◌, ◌++◌, flat_map, length, Option, Some, None, Result, option_map, option_and_then, if◌then◌else◌}
 use Rattle.std.specs.Str.{is_utf8}
+use Rattle.cg_base.specs.Ascii.{SPACE, QUOTE, BACKSLASH, DELETE}
 use Rattle.cg_text.specs.declared.fault.TextFault.{TextFault}
 use Rattle.cg_text.specs.declared.fault.TextFault.TheVariants.{BadQuote, TooLong}
 use Rattle.cg_text.specs.Fault.{fitting}
 
 -- a byte that has a backslash before it
 abbrev pub is_special : ℕ → Bool
-is_special byte = (byte == 34) || (byte == 92)
+is_special byte = (byte == QUOTE) || (byte == BACKSLASH)
 
 -- a byte that no quoted text has
 abbrev pub is_control : ℕ → Bool
-is_control byte = nat_lt byte 32 || (byte == 127)
+is_control byte = nat_lt byte SPACE || (byte == DELETE)
 
 -- a byte as it stands between quotes
 abbrev pub escaped : ℕ → List ℕ
-escaped byte = if is_special byte then 92 ∷ byte ∷ [] else byte ∷ []
+escaped byte = if is_special byte then BACKSLASH ∷ byte ∷ [] else byte ∷ []
 
 -- a text between quotes
 abbrev pub quoted : List ℕ → List ℕ
-quoted text = 34 ∷ flat_map escaped text ++ 34 ∷ []
+quoted text = QUOTE ∷ flat_map escaped text ++ QUOTE ∷ []
 
 -- nothing may stand behind the closing quote
 abbrev pub closed : List ℕ → Option (List ℕ)
@@ -28,10 +29,10 @@ closed (byte ∷ bytes) = None
 
 -- what a byte of the text does, which may stand behind a backslash: it ends the text, is a backslash before another byte, or must not stand there
 abbrev pub ends_text : Bool → ℕ → Bool
-ends_text is_escaped byte = not is_escaped && (byte == 34)
+ends_text is_escaped byte = not is_escaped && (byte == QUOTE)
 
 abbrev pub escapes : Bool → ℕ → Bool
-escapes is_escaped byte = not is_escaped && (byte == 92)
+escapes is_escaped byte = not is_escaped && (byte == BACKSLASH)
 
 abbrev pub is_refused : Bool → ℕ → Bool
 is_refused is_escaped byte = if is_escaped then not (is_special byte) else is_control byte
@@ -54,7 +55,7 @@ text_up_to_quote is_escaped (byte ∷ bytes) =
 -- the text that stands between the quotes that begin and end the bytes
 abbrev pub text_between : List ℕ → Option (List ℕ)
 text_between [] = None
-text_between (byte ∷ bytes) = if byte == 34 then text_up_to_quote false bytes else None
+text_between (byte ∷ bytes) = if byte == QUOTE then text_up_to_quote false bytes else None
 
 -- the text, where it is one
 abbrev pub if_text : List ℕ → Option (List ℕ)

@@ -1,11 +1,12 @@
 -- The tokens of a line, each as its bytes stand there: bare words, quoted texts with their quotes, semicolons and question marks.
 use Rattle.std.specs.Prelude.{ℕ, ◌==◌, Bool, true, false, ◌||◌, not, List, [], ◌∷◌, ◌++◌, if◌then◌else◌}
 use Rattle.std.specs.List.{list_all}
+use Rattle.cg_base.specs.Ascii.{TAB, SPACE, QUOTE}
 use Rattle.cg_text.specs.Quoted.{ends_text, escapes}
 
 -- a space or a tab
 abbrev pub is_blank : ℕ → Bool
-is_blank byte = (byte == 32) || (byte == 9)
+is_blank byte = (byte == SPACE) || (byte == TAB)
 
 -- a byte that is a token by itself
 abbrev pub is_separator : ℕ → Bool
@@ -13,7 +14,7 @@ is_separator byte = (byte == 59) || (byte == 63)
 
 -- a byte that ends a word
 abbrev pub is_mark : ℕ → Bool
-is_mark byte = is_blank byte || is_separator byte || (byte == 34)
+is_mark byte = is_blank byte || is_separator byte || (byte == QUOTE)
 
 -- where a reader of the line stands: between tokens, in a word, or in a quoted text, maybe behind a backslash; in a token it has the bytes so far
 pub data Scan : Type 0 where
@@ -23,7 +24,7 @@ pub data Scan : Type 0 where
 
 -- where the reader stands after a byte that ends a word
 abbrev pub after_mark : ℕ → Scan
-after_mark byte = if byte == 34 then InText (byte ∷ []) false else Between
+after_mark byte = if byte == QUOTE then InText (byte ∷ []) false else Between
 
 -- where the reader stands after a byte
 abbrev pub next_scan : Scan → ℕ → Scan

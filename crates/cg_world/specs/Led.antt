@@ -1,6 +1,6 @@
 -- The worlds that there are, and the made actions that they keep.
 use Rattle.std.specs.Prelude.{◌≡◌, ℕ, List, Contains, length}
-use Rattle.cg_group.specs.EachLaws.{Each}
+use Rattle.cg_base.specs.Lists.{Each}
 use Rattle.cg_base.specs.Cuts.{index_in}
 use Rattle.cg_action.specs.declared.action.Action.{Action}
 use Rattle.cg_model.specs.World.{World}

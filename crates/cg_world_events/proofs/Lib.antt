@@ -8,7 +8,7 @@ mod NodeFacts
 mod SeenNodes
 mod StruckNodes
 mod TransferFacts
-mod Beginning
+mod NewReplicas
 mod Events
 mod Falling
 mod Opening

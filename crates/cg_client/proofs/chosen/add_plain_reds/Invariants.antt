@@ -2,7 +2,7 @@ use Rattle.std.proofs.Common.{◌≡◌, ◌++◌, not, filter}
 use Rattle.std.specs.Vec.Iter.{into_iter_items}
 use Rattle.cg_base.specs.Ids.{names}
 use Rattle.cg_action.specs.ActionLimits.{IsAction}
-use Rattle.cg_records.specs.Limits.{Each}
+use Rattle.cg_base.specs.Lists.{Each}
 use Rattle.cg_client.specs.Chosen.{plain_reds}
 use Rattle.cg_client.proofs.chosen.add_plain_reds.Given as goal
 

@@ -6,7 +6,7 @@ use Rattle.cg_codec.specs.Fields.{number32}
 use Rattle.cg_action.specs.ActionLimits.{IsKey}
 use Rattle.cg_db.specs.Map.{keys, value_of}
 use Rattle.cg_db.specs.View.{entry_at}
-use Rattle.cg_records.specs.Limits.{Each}
+use Rattle.cg_base.specs.Lists.{Each}
 use Rattle.cg_disk_records.specs.Checkpoint.{spelled_entry}
 use Rattle.cg_disk_records.proofs.Steps.{keeps_after}
 use Rattle.cg_disk_records.proofs.ListFields.{Each-at}

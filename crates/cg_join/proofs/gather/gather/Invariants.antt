@@ -1,6 +1,6 @@
 use Rattle.std.proofs.Common.{◌≡◌, fold}
 use Rattle.std.specs.Vec.Iter.{into_iter_items}
-use Rattle.cg_records.specs.Limits.{Each}
+use Rattle.cg_base.specs.Lists.{Each}
 use Rattle.cg_join.specs.Gathered.{with_part, nothing, IsGathered}
 use Rattle.cg_join.specs.Limits.{IsPart}
 use Rattle.cg_join.proofs.gather.gather.Given as goal

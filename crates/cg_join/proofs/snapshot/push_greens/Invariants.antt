@@ -1,7 +1,7 @@
 use Rattle.std.proofs.Common.{◌≡◌, fold}
 use Rattle.std.specs.Vec.Iter.{into_iter_items}
 use Rattle.cg_action.specs.ActionLimits.{IsAction}
-use Rattle.cg_records.specs.Limits.{Each}
+use Rattle.cg_base.specs.Lists.{Each}
 use Rattle.cg_join.specs.Snapshot.{with_green_part}
 use Rattle.cg_join.proofs.snapshot.push_greens.Given as goal
 

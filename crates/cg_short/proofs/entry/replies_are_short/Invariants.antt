@@ -1,5 +1,5 @@
 use Rattle.std.proofs.Common.{take}
-use Rattle.cg_records.specs.Limits.{Each}
+use Rattle.cg_base.specs.Lists.{Each}
 use Rattle.cg_short.specs.Short.{IsShortReply}
 use Rattle.cg_short.proofs.entry.replies_are_short.Given as goal
 

@@ -2,7 +2,7 @@ use Rattle.std.proofs.Common.{◌≡◌, fold}
 use Rattle.std.specs.Vec.Iter.{into_iter_items}
 use Rattle.cg_action.specs.ActionLimits.{IsAction}
 use Rattle.cg_queue.specs.Queue.{names_of}
-use Rattle.cg_records.specs.Limits.{Each}
+use Rattle.cg_base.specs.Lists.{Each}
 use Rattle.cg_store.specs.Leading.{AreNext}
 use Rattle.cg_store.specs.Rebuilt.{with_kept_red}
 use Rattle.cg_store.proofs.rebuild.put_reds.Given as goal

@@ -1,7 +1,7 @@
 use Rattle.std.proofs.Common.{◌≡◌, fold}
 use Rattle.std.specs.Vec.Iter.{into_iter_items}
 use Rattle.cg_action.specs.ActionLimits.{IsAction}
-use Rattle.cg_records.specs.Limits.{Each}
+use Rattle.cg_base.specs.Lists.{Each}
 use Rattle.cg_client.specs.Replica.{State}
 use Rattle.cg_client.specs.Marks.{mark_green}
 use Rattle.cg_client.specs.Drafts.{turn_with}

@@ -1,7 +1,7 @@
 use Rattle.std.proofs.Common.{◌≡◌, ◌++◌}
 use Rattle.std.specs.Vec.Iter.{into_iter_items}
 use Rattle.cg_action.specs.ActionLimits.{IsAction}
-use Rattle.cg_records.specs.Limits.{Each}
+use Rattle.cg_base.specs.Lists.{Each}
 use Rattle.cg_store.proofs.unwritten.Unwritten.add_all.Given as goal
 
 -- with those that are left it is what it is with all

@@ -1,6 +1,6 @@
 use Rattle.std.proofs.Common.{refl, ◌∙◌}
 use Rattle.cg_disk.specs.Model.{view_of, state_of}
-use Rattle.cg_world_events.proofs.Beginning.{starts_so}
+use Rattle.cg_world_events.proofs.NewReplicas.{starts_so}
 use Rattle.cg_world_events.proofs.node.Node.begin.Goals as goal
 
 pub returns-in-Running : goal.returns-in-Running

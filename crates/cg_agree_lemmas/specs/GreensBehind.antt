@@ -7,7 +7,7 @@ use Rattle.cg_action.specs.declared.action.Action.{Action}
 use Rattle.cg_group.specs.declared.delivery.Delivery.TheVariants.{Transitional as TransitionalIn, Regular as RegularIn}
 use Rattle.cg_group.specs.State.{home, regular_in, phase_of, delivered_to, configuration}
 use Rattle.cg_group.specs.Events.{delivery_at, deliveries_at}
-use Rattle.cg_group.specs.EachLaws.{Each}
+use Rattle.cg_base.specs.Lists.{Each}
 use Rattle.cg_client.specs.Replica.{State, RegPrim, TransPrim, ExchangeStates, ExchangeActions, Construct, No, Un, NonPrim, Left, Replica}
 use Rattle.cg_client.specs.Turn.{Turn, begin}
 use Rattle.cg_client.specs.Requests.{is_creating, create, create_kept, empty_buffer, buffer, settle, request_in}
@@ -22,8 +22,9 @@ use Rattle.cg_model.specs.Played.{IsSame}
 use Rattle.cg_agree_lemmas.specs.ChronicleFacts.{node_of-set, past_of-turn}
 use Rattle.cg_agree_lemmas.specs.SameSmalls.{played-same}
 use Rattle.cg_agree_lemmas.specs.SmallWorlds.{played_in, played-world}
-use Rattle.cg_agree_lemmas.specs.GreenMembers.{FollowsGreens, follows-first, follows-same, takes-follow, creates-same}
-use Rattle.cg_items_agree.proofs.TurnAlong.{IsPartOf, Keeps, GreensKeep, RunsThrough}
+use Rattle.cg_agree_lemmas.specs.GreenMembers.{FollowsGreens, follows-first, follows-same, takes-follow, creates-same, drop-front}
+use Rattle.cg_agree_lemmas.specs.TurnAlong.{IsPartOf, Keeps, GreensKeep, RunsThrough}
+use Rattle.cg_agree_lemmas.specs.TurnGreens.{played-both}
 
 -- a part of a turn makes further actions green
 abbrev pub MakesGreen : (Turn → Turn) → Type 0
@@ -36,10 +37,6 @@ pub record IsAhead (all kept : List Action) (c : Chronicle) (p : ℕ) : Type 0 w
   pub more : List Action
   pub greens : past.greens ≡ all ++ more
   pub held : IfSome (replica_of c.world p) (λ r. r.held.queue.greens ≡ kept ++ more)
-
-drop-front : (xs ys : List Action) → drop (length xs) (xs ++ ys) ≡ ys
-drop-front [] ys = refl
-drop-front (x ∷ xs) ys = drop-front xs ys
 
 asked-follow : (kind : Kind) → MakesGreen (take_request kind)
 asked-follow kind r = at r.state where
@@ -140,10 +137,6 @@ module _ (all kept : List Action) (p : ℕ) where
   ahead-others (s ∷ smalls) keeps c is =
       let one = keeps.0 c in
       ahead-others smalls keeps.1 (small_step c s) (ahead-same c (small_step c s) one.past (ap (λ (o : Option Node). option_and_then (λ s. running s.life) o) one.node) is)
-
-played-both : (xs ys : List Small) (c : Chronicle) → played c (xs ++ ys) ≡ played (played c xs) ys
-played-both [] ys c = refl
-played-both (x ∷ xs) ys c = played-both xs ys (small_step c x)
 
 greens-kept : (p : ℕ) (smalls : List Small) → Each (GreensKeep p) smalls → (c : Chronicle) → greens_of (played c smalls) p ≡ greens_of c p
 greens-kept p [] keeps c = refl

@@ -2,13 +2,13 @@
 use Rattle.std.proofs.Common.{◌≡◌, ℕ, zero, suc, ◌+◌, ◌-◌, true, List, [], ◌∷◌, ◌++◌, flat_map, fold, length, replicate, Option, Some, None, refl, sym, ap, ◌∙◌, subst, is_none, append-nil, arith, nat_lt}
 use Rattle.std.specs.Option.{option_map_or}
 use Rattle.std.proofs.lemmas.Bool.{ltb-false}
-use Rattle.cg_base.specs.Lists.{above_up_to}
+use Rattle.cg_base.specs.Lists.{above_up_to, Each}
 use Rattle.cg_base.specs.Sets.{has}
 use Rattle.cg_action.specs.declared.action.Kind.{Kind}
 use Rattle.cg_action.specs.declared.action.Kind.TheVariants.{Update, Join as JoinKind, Leave as LeaveKind}
 use Rattle.cg_wire.specs.declared.message.Msg.{Msg}
 use Rattle.cg_group.specs.declared.delivery.Delivery.TheVariants.{Regular as RegularIn}
-use Rattle.cg_group.specs.EachLaws.{Each, Each-append}
+use Rattle.cg_group.specs.EachLaws.{Each-append}
 use Rattle.cg_group.specs.State.{GroupState, delivered_to, home, is_regular}
 use Rattle.cg_group.specs.Ready.{ready}
 use Rattle.cg_group.specs.Refusals.{deliver_refusal, not_up, not_regular, not_ready}
@@ -30,7 +30,6 @@ use Rattle.cg_model.specs.Smalls.{smalls_in, turns_as, leaving_steps, ending, en
 use Rattle.cg_model.specs.FactsLists.{IsRising}
 use Rattle.cg_model.specs.Played.{StandsBeside}
 use Rattle.cg_agree_lemmas.specs.UnorderedKept.{first-none, refused-not}
-use Rattle.cg_agree_lemmas.specs.MadeAlone.{not-refused}
 use Rattle.cg_agree_lemmas.specs.Standings.{rising-lower}
 use Rattle.cg_agree_lemmas.specs.SmallWorlds.{grouped, small_in, played_in}
 use Rattle.cg_agree_lemmas.specs.TurnWorlds.{hosted, up_node, turn-first}
@@ -41,8 +40,9 @@ use Rattle.cg_agree_lemmas.specs.MadeSplit.{rising-set-list, turns-split, parted
 use Rattle.cg_agree_lemmas.specs.MadeMerge.{turns-merge, made, entered, entered-id, members-of as coming-all, input as entered-input, block as entering, IsComing}
 use Rattle.cg_agree_lemmas.specs.SoundWorlds.{IsSound, sound-of, sound-same}
 use Rattle.cg_agree_lemmas.specs.EventMembers.{leaving-members, coming-members}
-use Rattle.cg_agree.proofs.TurnAlong.{IsPartOf, Keeps, RunsThrough, runs-later, runs-alone, together-runs}
+use Rattle.cg_agree_lemmas.specs.TurnAlong.{IsPartOf, Keeps, RunsThrough, runs-later, runs-alone, together-runs}
 use Rattle.cg_agree_lemmas.specs.EventInputs.{IsHanded}
+use Rattle.cg_group.specs.RefusalLaws.{refuse_none}
 
 -- a replica that takes such a turn runs on behind it
 pub record RunsBehind (w : World) (p : ℕ) (input : Input) : Type 0 where
@@ -95,7 +95,7 @@ module _ (w : World) where
       let first = first-none (unknown w p) (deliver_refusal w.group p count ∷ []) (ap is_none admitted) in
       let up = first-none (not_up w.group p) (not_regular w.group p ∷ not_ready w.group p count ∷ []) (ap is_none (first-none (deliver_refusal w.group p count) [] first.1).0) in
       let regular = first-none (not_regular w.group p) (not_ready w.group p count ∷ []) up.1 in
-      let enough = not-refused (nat_lt (ready w.group p) count) _ (first-none (not_ready w.group p count) [] regular.1).0 in
+      let enough = refuse_none (nat_lt (ready w.group p) count) _ (first-none (not_ready w.group p count) [] regular.1).0 in
       let here : IsUp w p = record { replica = on.replica; disk = on.disk; node = on.node } in
       let opens = may-opens w p count sound.nodes sound.group.rises here (stands-regular w.group p (refused-not (is_regular w.group p) _ regular.0)) (ltb-false (ready w.group p) count enough) in
       one-turn p (Deliveries list) (block p) (with_delivered g p (from + count)) on (flat_map (ending block) (taken w p (Deliveries list) ++ []))

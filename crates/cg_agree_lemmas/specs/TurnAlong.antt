@@ -1,13 +1,15 @@
 -- Where a replica's turn stands among the small steps of an event: those before are of other replicas, its own parts lead to what its
 -- turn leads to, and behind them its greens stay.
-use Rattle.std.proofs.Common.{◌≡◌, ℕ, suc, ◌≤◌, ◌<◌, Bool, true, false, ◌||◌, List, [], ◌∷◌, ◌++◌, flat_map, Option, Some, None, refl, sym, ap, ap₂, ◌∙◌, subst, inl, inr, option_and_then, arith, append_assoc, if◌then◌else◌}
+use Rattle.std.proofs.Common.{◌≡◌, ℕ, suc, ◌≤◌, ◌<◌, Bool, true, false, ◌||◌, List, [], ◌∷◌, ◌++◌, flat_map, Option, Some, None, option_map, refl, sym, ap, ap₂, ◌∙◌, subst, inl, inr, option_and_then, arith, append_assoc, if◌then◌else◌}
 use Rattle.std.specs.Prelude.{◌==◌}
 use Rattle.std.specs.Option.{option_map_or}
 use Rattle.std.proofs.lemmas.Bool.{cases_eq, cond_both, ne_eqb}
 use Rattle.cg_base.specs.Sets.{has}
+use Rattle.cg_action.specs.declared.action.Action.{Action}
 use Rattle.cg_wire.specs.declared.message.Msg.{Msg}
 use Rattle.cg_group.specs.declared.delivery.Delivery.{Delivery}
-use Rattle.cg_group.specs.EachLaws.{Each, Each-append, Each-weaker}
+use Rattle.cg_base.specs.Lists.{Each}
+use Rattle.cg_group.specs.EachLaws.{Each-append, Each-weaker}
 use Rattle.cg_group.specs.State.{Standing, GroupState, set_standing}
 use Rattle.cg_group.specs.Events.{send_all}
 use Rattle.cg_client.specs.Replica.{Replica}
@@ -18,14 +20,14 @@ use Rattle.cg_disk_records.specs.Crash.{Disk, EventEnd, Runs, Crashes as EndsInC
 use Rattle.cg_model.specs.World.{NodeState, Up, Down, Node, World, running, node_of, replica_of}
 use Rattle.cg_model.specs.Show.{StepInProgress}
 use Rattle.cg_model.specs.Step.{hand}
-use Rattle.cg_model.specs.Chronicle.{Chronicle}
-use Rattle.cg_model.specs.Looks.{greens_of}
+use Rattle.cg_model.specs.Chronicle.{Past, Chronicle}
+use Rattle.cg_model.specs.Looks.{past_of, greens_of}
 use Rattle.cg_model.specs.Turns.{Taken, taken, taken_as, stands}
-use Rattle.cg_model.specs.Small.{Small, Starts, Makes, Enters, Orders, Receives, Hands, Leaves, Asks, Settles, Commits, Crashes, Recovers, Copies, Joins, commit_as, small_step}
+use Rattle.cg_model.specs.Small.{Small, Starts, Makes, Enters, Orders, Receives, Hands, Leaves, Asks, Settles, Commits, Crashes, Recovers, Copies, Joins, written, commit_as, small_step}
 use Rattle.cg_model.specs.Smalls.{ending, ending_as}
 use Rattle.cg_model.specs.FactsLists.{IsRising}
 use Rattle.cg_agree_lemmas.specs.GroupChanges.{down-own}
-use Rattle.cg_agree.proofs.GreensFront.{commit-same}
+use Rattle.cg_agree_lemmas.specs.CoresKept.{past-here, past-there}
 use Rattle.cg_agree_lemmas.specs.RestFacts.{IsOf, IsKept, others-kept}
 use Rattle.cg_agree_lemmas.specs.SmallWorlds.{played_in, played-append}
 use Rattle.cg_agree_lemmas.specs.TurnWorlds.{hosted, up_node, node-hosted, turn-ends}
@@ -69,6 +71,20 @@ keeps-greens p s keeps c = ap (λ o. option_map_or (λ x. x.greens) o []) (keeps
 
 pub other-keeps : (p q : ℕ) (s : Small) → (p ≡ q → ⊥) → IsOf q s → Keeps p s
 other-keeps p q s apart is c = others-kept c s q p is apart
+
+-- a commit leaves them
+pub commit-same : (c : Chronicle) (p : ℕ) (l : NodeState) (q : ℕ) → greens_of (commit_as c p l) q ≡ greens_of c q
+commit-same c p (Down disk green) q = refl
+commit-same c p (Up r disk) q = elim (cases_eq p q) [
+  | inl here ↦ subst (λ n. greens_of (commit_as c p (Up r disk)) n ≡ greens_of c n) here (ap greens-in (past-here written (λ x. refl) c p) ∙ same (past_of c p))
+  | inr apart ↦ ap greens-in (past-there written (λ x. refl) c p q apart)
+] where
+  greens-in : Option Past → List Action
+  greens-in o = option_map_or (λ x. x.greens) o []
+
+  same : (o : Option Past) → greens-in (option_map written o) ≡ greens-in o
+  same None = refl
+  same (Some x) = refl
 
 pub commit-greens : (p : ℕ) → GreensKeep p (Commits p)
 unfolding small_step

@@ -1,7 +1,7 @@
--- Lists: where an element stands, the last element, and fronts.
-use Rattle.std.proofs.Common.{◌≡◌, ◌⊎◌, ℕ, zero, suc, ◌<◌, List, [], ◌∷◌, ◌++◌, flat_map, length, take, Option, Some, None, Contains, refl, sym, ap, ◌∙◌, inl, inr, arith, append_assoc}
+-- Lists: where an element stands, the last element, and what is in them one after the other.
+use Rattle.std.proofs.Common.{◌≡◌, ◌⊎◌, ℕ, zero, suc, ◌<◌, List, [], ◌∷◌, ◌++◌, flat_map, length, take, Option, Some, None, Contains, refl, sym, ap, ◌∙◌, inl, inr, subst, arith, append_assoc}
 use Rattle.std.proofs.lemmas.List.Elements.{Contains-append_right}
-use Rattle.cg_base.specs.Lists.{present}
+use Rattle.cg_base.specs.Lists.{present, Each}
 
 module _ {X : Type 0} where
   pub contains-none : (x : X) → Contains [] x → ⊥
@@ -48,3 +48,10 @@ module _ {X Y : Type 0} (f : X → List Y) where
   flat-append [] ys = refl
   flat-append (x ∷ xs) ys = ap (λ zs. f x ++ zs) (flat-append xs ys)
       ∙ sym (append_assoc (f x) (flat_map f xs) (flat_map f ys))
+
+-- what holds of each element holds of one that stands there
+pub each-contains : {X : Type 0} (P : X → Type 0) (xs : List X) (x : X) → Each P xs → Contains xs x → P x
+each-contains P [] x each there = absurd (contains-none x there)
+each-contains P (y ∷ xs) x each (zero, less, is) = subst P is each.0
+each-contains P (y ∷ xs) x each (suc k, less, is) =
+    each-contains P xs x each.1 (k, (let more : suc k < suc (length xs) = less in omega arith), is)
