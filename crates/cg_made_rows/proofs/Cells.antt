@@ -91,12 +91,11 @@ shown-one known rows v cut key r from is read =
     if-ok (λ cell. cell ≡ cell_in (seen v) key) (λ cell. cell ≡ cell_at rows cut key) r
     (λ cell e. e ∙ read-one known rows (seen v) key from ∙ ap (λ c. cell_at rows c key) is) read
 
-pub shown-both : {E : Type 0} → KnownDecides → StaysOfOneMap → (rows : List (List Action)) (v w together : RelaxedState)
+pub shown-both : {E : Type 0} → KnownDecides → StaysOfOneMap → (rows : List (List Action)) (v w : RelaxedState)
     (cut other : List ActionId) (key : List ℕ) (r : Result Cell E) → IsFrom rows v → IsFrom rows w → v.known ≡ cut →
-    w.known ≡ other →
-    seen together ≡ joined (seen v) (seen w) → IfOk r (λ cell. cell ≡ cell_in (seen together) key) →
+    w.known ≡ other → IfOk r (λ cell. cell ≡ cell_in (joined (seen v) (seen w)) key) →
     IfOk r (λ cell. cell ≡ cell_at rows (greatest_cut cut other) key)
-shown-both known stays rows v w together cut other key r from also is too both read =
-    if-ok (λ cell. cell ≡ cell_in (seen together) key) (λ cell. cell ≡ cell_at rows (greatest_cut cut other) key) r
-    (λ cell e. e ∙ ap (λ t. cell_in t key) both ∙ read-both known stays rows (seen v) (seen w) key from also
+shown-both known stays rows v w cut other key r from also is too read =
+    if-ok (λ cell. cell ≡ cell_in (joined (seen v) (seen w)) key) (λ cell. cell ≡ cell_at rows (greatest_cut cut other) key) r
+    (λ cell e. e ∙ read-both known stays rows (seen v) (seen w) key from also
     ∙ ap (λ c. cell_at rows (greatest_cut c w.known) key) is ∙ ap (λ c. cell_at rows (greatest_cut cut c) key) too) read

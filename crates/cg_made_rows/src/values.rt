@@ -136,8 +136,7 @@ pub(crate) fn cell_of_both(
     relaxed_values_agree();
     let one = value_at(values, p, cut)?;
     let two = value_at(values, q, other)?;
-    let together = one.join(two)?;
-    together.read(key)
+    one.read_joined(two, key)
 }
 
 // the value of a replica, which knows what the cut names

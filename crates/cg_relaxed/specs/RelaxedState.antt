@@ -33,6 +33,11 @@ write_at writes key = lookup (same_text key) writes
 abbrev pub knows_less : List ActionId → List ActionId → ℕ → Bool
 knows_less cut other p = nat_lt (index_in cut p) (index_in other p)
 
+-- of what two know together, the sum of the one that knows more of the creator
+abbrev pub sum_of_both : List (SumKey × ℤ) → List ActionId → List (SumKey × ℤ) → List ActionId → List ℕ → ℕ → ℤ
+sum_of_both sums known other_sums other_known key p =
+    if knows_less known other_known p then sum_at other_sums key p else sum_at sums key p
+
 -- whether the sums of a creator are asked for: those of whom less is known, or all others
 abbrev pub is_wanted : Bool → List ActionId → List ActionId → ℕ → Bool
 is_wanted less cut other p = if less then knows_less cut other p else not (knows_less cut other p)

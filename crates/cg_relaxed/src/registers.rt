@@ -7,7 +7,7 @@ ghost use Rattle.cg_relaxed.specs.declared.write.Write.{Write as WriteOf};
 ghost use Rattle.cg_relaxed.specs.Writes.{later};
 ghost use Rattle.cg_relaxed.specs.RelaxedState.{write_at, merged};
 
-use crate::write::{Write, later};
+use crate::write::{Write, copy_later};
 use cg_base::NoMemory;
 use cg_text::Txt;
 use indexmap::IndexMap;
@@ -74,7 +74,7 @@ fn merge_one(
     let Some((key, write)) = from.get_index(index) else {
         return Ok(());
     };
-    let write = later(alloc, other.get(key), write)?;
+    let write = copy_later(alloc, other.get(key), write)?;
     let key = key.copy(alloc)?;
     to.insert(key, write)?;
     Ok(())

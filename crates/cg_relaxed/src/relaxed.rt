@@ -7,8 +7,8 @@ ghost use Rattle.cg_relaxed.specs.Relaxed.{nothing_known, with_action, joined, c
 use crate::Cell;
 use crate::registers::{Registers, merge};
 use crate::run::{copy_all, counted, first_stamp, run_each};
-use crate::sums::{Sums, take_over, total};
-use crate::write::value_in;
+use crate::sums::{Sums, take_over, total, total_of_both};
+use crate::write::{later, value_in};
 use cg_action::Action;
 use cg_base::{Cut, NoMemory};
 use cg_text::Txt;
@@ -106,6 +106,22 @@ impl Relaxed {
     {
         let value = value_in(self.alloc, self.registers.get(key))?;
         let sum = total(&self.sums, key.copy(self.alloc)?);
+        Ok(Cell { value, sum })
+    }
+
+    /// What stands at a key in what the two know together, without making that value.
+    pub fn read_joined(&self, other: &Relaxed, key: &Txt) -> Result<Cell, NoMemory>
+        ensures { IfOk result (λ cell. cell ≡ cell_in (joined (seen self.now) (seen other.now)) key.now) }
+    {
+        let last = later(self.registers.get(key), other.registers.get(key));
+        let value = value_in(self.alloc, last)?;
+        let sum = total_of_both(
+            &self.sums,
+            &self.known,
+            &other.sums,
+            &other.known,
+            key.copy(self.alloc)?,
+        );
         Ok(Cell { value, sum })
     }
 }

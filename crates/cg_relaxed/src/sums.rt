@@ -7,7 +7,7 @@ ghost use Rattle.indexmap.specs.IndexMap.{spare};
 ghost use Rattle.cg_base.specs.Cuts.{index_in};
 ghost use Rattle.cg_base.specs.Replicas.{every_replica};
 ghost use Rattle.cg_relaxed.specs.declared.sum_key.SumKey.{SumKey as PartOf};
-ghost use Rattle.cg_relaxed.specs.RelaxedState.{same_part, sum_at, knows_less, is_wanted, taken_over, IsWithin};
+ghost use Rattle.cg_relaxed.specs.RelaxedState.{same_part, sum_at, sum_of_both, knows_less, is_wanted, taken_over, IsWithin};
 
 use crate::sum_key::SumKey;
 use cg_base::{Cut, NoMemory, ReplicaId};
@@ -42,6 +42,44 @@ pub(crate) fn total(sums: &Sums, key: Txt) -> i128
         total += sum_of(sums, &part);
     }
     total
+}
+
+/// What is added to a key in what two know together, whoever did.
+pub(crate) fn total_of_both(
+    sums: &Sums,
+    known: &Cut,
+    other_sums: &Sums,
+    other_known: &Cut,
+    key: Txt,
+) -> i128
+    requires { (p : ℕ) → IsWithin (2 ^ 107) (sum_of_both sums.now.entries known.now other_sums.now.entries other_known.now key p) }
+    ensures { result ≡ fold (λ n p. n +ℤ sum_of_both sums.now.entries known.now other_sums.now.entries other_known.now key p)
+        (pos 0) every_replica }
+{
+    let mut part = SumKey { creator: 1, key };
+    let mut total = 0;
+    for creator in 1..33 {
+        part.creator = creator;
+        total += sum_of_both(sums, known, other_sums, other_known, &part);
+    }
+    total
+}
+
+// the sum of the one that knows more of its creator
+fn sum_of_both(
+    sums: &Sums,
+    known: &Cut,
+    other_sums: &Sums,
+    other_known: &Cut,
+    part: &SumKey,
+) -> i128
+    ensures { result ≡ sum_of_both sums.now.entries known.now other_sums.now.entries other_known.now part.now.key part.now.creator }
+{
+    if knows_less(known, other_known, part.creator) {
+        sum_of(other_sums, part)
+    } else {
+        sum_of(sums, part)
+    }
 }
 
 fn sum_of(sums: &Sums, part: &SumKey) -> i128

@@ -74,21 +74,36 @@ fn copy_value(alloc: Global, value: &Option<Value>) -> Result<Option<Value>, NoM
 }
 
 /// A copy of the later one; of the first where neither is later.
-pub(crate) fn later(alloc: Global, first: Option<&Write>, other: &Write) -> Result<Write, NoMemory>
+pub(crate) fn copy_later(
+    alloc: Global,
+    first: Option<&Write>,
+    other: &Write,
+) -> Result<Write, NoMemory>
     ensures { IfOk result (λ write. Some write ≡ later (option_copied first.entry) (Some other.now)) }
 {
     match first {
         None => other.copy(alloc),
-        Some(first) => later_of(alloc, first, other),
+        Some(first) => later_of(first, other).copy(alloc),
     }
 }
 
-fn later_of(alloc: Global, first: &Write, other: &Write) -> Result<Write, NoMemory>
-    ensures { IfOk result (λ write. write ≡ later_of first.now other.now) }
+/// Of two registers the one that was written later; the first where neither was.
+pub(crate) fn later<'a>(first: Option<&'a Write>, other: Option<&'a Write>) -> Option<&'a Write>
+    ensures { option_copied result ≡ later (option_copied first.entry) (option_copied other.entry) }
+{
+    match (first, other) {
+        (Some(first), Some(other)) => Some(later_of(first, other)),
+        (Some(_), None) => first,
+        (None, _) => other,
+    }
+}
+
+fn later_of<'a>(first: &'a Write, other: &'a Write) -> &'a Write
+    ensures { result.now ≡ later_of first.now other.now }
 {
     if first.stamp.is_before(&other.stamp) {
-        other.copy(alloc)
+        other
     } else {
-        first.copy(alloc)
+        first
     }
 }
