@@ -1,5 +1,5 @@
 -- What is asked of a replica of a world, asked of what it holds.
-use Rattle.std.proofs.Common.{◌≡◌, Option, Some, None, option_map, refl, sym, ap}
+use Rattle.std.proofs.Common.{◌≡◌, Option, Some, None, option_map, refl}
 use Rattle.std.specs.Prelude.{option_and_then}
 use Rattle.std.specs.Option.{option_map_or}
 use Rattle.cg_client.specs.Replica.{Replica, Held}

@@ -1,19 +1,46 @@
 -- What a command comes to that replays its input.
-use Rattle.std.proofs.Common.{◌≡◌, ℕ, List, ◌++◌, take, Option, Some, None, sym, subst}
+use Rattle.std.proofs.Common.{◌≡◌, ℕ, List, [], ◌++◌, take, Option, Some, None, refl, sym, subst, arith}
 use Rattle.cg_io.specs.Outside.{SourceView, SinkView, PutsAll}
 use Rattle.cg_items.specs.declared.companion.Companion.{Companion}
 use Rattle.cg_items.specs.declared.report.Report.{Report}
 use Rattle.cg_outcome.specs.declared.command.Command.{Command}
 use Rattle.cg_outcome.specs.declared.status.Status.{Status}
+use Rattle.cg_outcome.specs.declared.status.Status.TheVariants as status
 use Rattle.cg_outcome.specs.Commands.{command_of}
+use Rattle.cg_outcome.specs.GoingOnLaws.{Appends-none}
 use Rattle.cg_outcome.specs.Outcome.{Ending, Open, outcome_of, text_put}
 use Rattle.cg_outcome.specs.Produced.{Produced, text_of, status_of}
 use Rattle.cg_outcome.specs.Putting.{StopsWith}
 use Rattle.cg_outcome.specs.Stopping.{EndsShort}
 use Rattle.cg_outcome.specs.Streaming.{Ends, FailedIsLast, Replays, first_stage, from_stage}
+use Rattle.cg_outcome.specs.TakeLaws.{Consumes-none}
 use Rattle.cg_outcome.specs.Taking.{Runs, ReadCause}
 use Rattle.cg_outcome.specs.NearLaws.{Runs-near}
 use Rattle.cg_outcome.specs.SparedLaws.{read-cause}
+
+-- memory was refused before anything was taken
+pub Replays-nothing : (report : Report) (c : Companion) (old : SourceView) (v : SinkView) →
+    Replays report c old old v v status.NoMemory
+Replays-nothing report c old v =
+    let p : Produced = from_stage (first_stage c) [] Open in
+    record {
+      taken = [];
+      ending = Open;
+      consumed = Consumes-none old.left;
+      cause = refl;
+      holds = (
+        omega arith,
+        (
+          record {
+            front = record { front = []; rest = text_of report p; whole = refl; grown = Appends-none v.held };
+            counted = omega arith;
+          },
+          λ finding. absurd finding,
+        ),
+        λ m few. absurd (omega (arith, few)),
+        λ is. absurd (cc),
+      );
+    }
 
 -- the command puts a report of what its input comes to, with this beside the world
 pub record IsReplay (command : Command) (report : Report) (c : Companion) : Type 0 where

@@ -2,10 +2,12 @@
 use Rattle.std.specs.Prelude.{◌≡◌, ℕ, None, Result, Ok, Err, MatchResult}
 use Rattle.cg_io.specs.Outside.{SinkView}
 use Rattle.cg_items.specs.declared.report.Report.{Report}
+use Rattle.cg_model.specs.World.{World}
 use Rattle.cg_outcome.specs.declared.status.Status.{Status}
 use Rattle.cg_outcome.specs.Produced.{Progress, Produced, end_in, tail_in}
 use Rattle.cg_outcome.specs.Streaming.{Stage}
 use Rattle.cg_outcome.specs.Stopping.{Shows, Stopped}
+use Rattle.cg_run.specs.declared.progress.Beside.{Beside}
 use Rattle.cg_run.specs.declared.progress.Progress.{Progress as RunProgress}
 use Rattle.cg_run.specs.declared.progress.Stage.{Stage as RunStage}
 
@@ -13,11 +15,22 @@ use Rattle.cg_run.specs.declared.progress.Stage.{Stage as RunStage}
 abbrev pub seen : RunProgress → Progress
 seen p = record {
   world = p.world.world;
-  companion = p.companion;
-  reader = p.reader;
-  count = p.count;
-  totals = p.totals;
-  logs = p.logs;
+  companion = p.beside.value.companion;
+  reader = p.beside.value.reader;
+  count = p.beside.value.count;
+  totals = p.beside.value.totals;
+  logs = p.beside.value.logs;
+}
+
+-- the same with this world, and with this beside it
+abbrev pub seen_beside : World → Beside → Progress
+seen_beside w b = record {
+  world = w;
+  companion = b.companion;
+  reader = b.reader;
+  count = b.count;
+  totals = b.totals;
+  logs = b.logs;
 }
 
 -- where it stands between two lines
@@ -38,4 +51,11 @@ abbrev pub Performs : Report → Produced → SinkView → SinkView → Result R
 Performs report p old new result =
     MatchResult result
     (λ s. (p.found ≡ None) × (seen s ≡ p.progress) × Shows report old new p.items)
+    (λ status. Stopped report p old new status)
+
+-- the same of a part that only changes what stands beside the world, and has then come this far
+abbrev pub Counts : Report → Produced → SinkView → SinkView → Progress → {T : Type 0} → Result T Status → Type 0
+Counts report p old new s result =
+    MatchResult result
+    (λ _. (p.found ≡ None) × (s ≡ p.progress) × Shows report old new p.items)
     (λ status. Stopped report p old new status)

@@ -1,5 +1,4 @@
 -- What the reply to an action comes to in a world.
-use Rattle.std.specs.Prelude.{ℕ}
 use Rattle.cg_base.specs.declared.action_id.ActionId.{ActionId}
 use Rattle.cg_model.specs.World.{World}
 use Rattle.cg_model.specs.Places.{place_of}

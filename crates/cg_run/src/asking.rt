@@ -13,11 +13,11 @@ ghost use Rattle.cg_outcome.specs.Putting.{Puts};
 ghost use Rattle.cg_outcome.specs.Stopping.{CutShort, Stopped};
 ghost use Rattle.cg_outcome.specs.UnderWay.{HasBegun};
 ghost use Rattle.cg_run.specs.Asking.{admitted};
-ghost use Rattle.cg_run.specs.Performing.{seen, Performs};
+ghost use Rattle.cg_run.specs.Performing.{seen, seen_beside, Counts, Performs};
 
 use crate::ending::end_at;
 use crate::further::{act, event_of, further_refusal};
-use crate::progress::{Line, Progress};
+use crate::progress::{Beside, Line, Progress};
 use crate::steps::take_step;
 use cg_base::NoMemory;
 use cg_group::Reason;
@@ -61,6 +61,38 @@ fn show_act<K: Sink>(
     }
 }
 
+// What an event does beside the world is put, and counted.
+fn count_act<K: Sink>(
+    line: Line,
+    output: &mut K,
+    event: &Further,
+    world: &World,
+    beside: &mut Beside,
+) -> Result<(), Status>
+    requires few_faults { (K.view output.old).faults < COUNT_LIMIT }
+    requires admitted { further_refusal world.now.world beside.old.companion event.now ≡ None }
+    ensures counts { Counts line.report (acted line.number event.now
+        (acts world.now.world beside.old.companion event.now) (seen_beside world.now.world beside.old))
+        (K.view output.old) (K.view output.new) (seen_beside world.now.world beside.new) result }
+    ensures reader { beside.new.reader ≡ beside.old.reader }
+{
+    let count = beside.count;
+    if count >= STEPS {
+        let status = Status::Limit {
+            line: line.number,
+            what: Limit::Steps,
+        };
+        return Err(end_at(line, output, status, count));
+    }
+    match show_act(line, output, &mut beside.companion, event, world, count + 1) {
+        Ok(()) => {
+            beside.count = count + 1;
+            Ok(())
+        }
+        Err(status) => Err(status),
+    }
+}
+
 // An event that was admitted acts beside the world.
 fn act_beside<K: Sink>(
     line: Line,
@@ -70,37 +102,15 @@ fn act_beside<K: Sink>(
 ) -> Result<Progress, Status>
     requires few_faults { (K.view output.old).faults < COUNT_LIMIT }
     requires begun { HasBegun (seen progress) }
-    requires admitted { further_refusal (seen progress).world progress.companion event.now ≡ None }
+    requires admitted { further_refusal (seen progress).world (seen progress).companion event.now ≡ None }
     ensures performs { Performs line.report (acted line.number event.now
-        (acts (seen progress).world progress.companion event.now) (seen progress))
+        (acts (seen progress).world (seen progress).companion event.now) (seen progress))
         (K.view output.old) (K.view output.new) result }
     ensures begun { IfOk result (λ s. HasBegun (seen s)) }
 {
-    let Progress {
-        world,
-        mut companion,
-        reader,
-        count,
-        totals,
-        logs,
-    } = progress;
-    if count >= STEPS {
-        drop(world);
-        let status = Status::Limit {
-            line: line.number,
-            what: Limit::Steps,
-        };
-        return Err(end_at(line, output, status, count));
-    }
-    match show_act(line, output, &mut companion, event, &world, count + 1) {
-        Ok(()) => Ok(Progress {
-            world,
-            companion,
-            reader,
-            count: count + 1,
-            totals,
-            logs,
-        }),
+    let Progress { world, mut beside } = progress;
+    match count_act(line, output, event, &world, &mut beside) {
+        Ok(()) => Ok(Progress { world, beside }),
         Err(status) => {
             drop(world);
             Err(status)
@@ -137,7 +147,7 @@ fn carry_further<K: Sink>(
     requires few_faults { (K.view output.old).faults < COUNT_LIMIT }
     requires begun { HasBegun (seen progress) }
     requires stands { StandsFor (seen progress).world event.now }
-    requires admitted { further_refusal (seen progress).world progress.companion event.now ≡ None }
+    requires admitted { further_refusal (seen progress).world (seen progress).companion event.now ≡ None }
     ensures performs { Performs line.report (admitted line.number event.now (seen progress))
         (K.view output.old) (K.view output.new) result }
     ensures begun { IfOk result (λ s. HasBegun (seen s)) }
@@ -158,7 +168,7 @@ fn refuse_event<K: Sink>(line: Line, output: &mut K, reason: Reason, progress: P
     ensures { (refused : Refused) → Stopped line.report
         (refused_with line.number refused reason (seen progress)) (K.view output.old) (K.view output.new) result }
 {
-    let count = progress.count;
+    let count = progress.beside.count;
     drop(progress);
     let status = Status::Refused {
         line: line.number,
@@ -181,7 +191,7 @@ pub fn perform_further<K: Sink>(
         (K.view output.old) (K.view output.new) result }
     ensures begun { IfOk result (λ s. HasBegun (seen s)) }
 {
-    match further_refusal(&progress.world, &progress.companion, event) {
+    match further_refusal(&progress.world, &progress.beside.companion, event) {
         Some(reason) => Err(refuse_event(line, output, reason, progress)),
         None => carry_further(line, output, event, progress),
     }

@@ -19,13 +19,13 @@ fn keep(progress: &mut Progress, number: u64, line: LogLine) -> Result<(), NoMem
     ensures { OnOk result (went_on (seen progress.new) ≡ log_outcome number (Ok (Some line)) (seen progress.old)) }
 {
     match line {
-        LogLine::Log { white, list } => progress.logs.push(Log {
+        LogLine::Log { white, list } => progress.beside.logs.push(Log {
             line: number,
             white,
             list,
         }),
         LogLine::End => {
-            progress.reader.end_logs();
+            progress.beside.reader.end_logs();
             Ok(())
         }
     }
@@ -38,7 +38,7 @@ fn take_line<K: Sink>(
     read: LogLine,
     progress: Progress,
 ) -> Result<Progress, Status>
-    requires { progress.companion ≡ Comparing }
+    requires { (seen progress).companion ≡ Comparing }
     ensures performs { Performs line.report (log_outcome line.number (Ok (Some read)) (seen progress))
         (K.view output.old) (K.view output.new) result }
     ensures under_way { IsUnderWay (seen progress) → IfOk result (λ s. IsUnderWay (seen s)) }
@@ -62,17 +62,17 @@ pub fn begin_log<K: Sink>(
     progress: Progress,
 ) -> Result<Progress, Status>
     requires few_faults { (K.view output.old).faults < COUNT_LIMIT }
-    requires compares { progress.companion ≡ Comparing }
+    requires compares { (seen progress).companion ≡ Comparing }
     requires under_way { IsUnderWay (seen progress) }
     ensures performs { Performs line.report (line_outcome line.number text.now (seen progress))
         (K.view output.old) (K.view output.new) result }
     ensures under_way { IfOk result (λ s. IsUnderWay (seen s)) }
 {
-    match read_log_line(line.alloc, progress.reader.state().ended, text) {
+    match read_log_line(line.alloc, progress.beside.reader.state().ended, text) {
         Ok(None) => Ok(progress),
         Ok(Some(read)) => take_line(line, output, read, progress),
         Err(fault) => {
-            let count = progress.count;
+            let count = progress.beside.count;
             drop(progress);
             Err(refuse_line(line, output, fault, count))
         }

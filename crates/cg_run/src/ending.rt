@@ -30,7 +30,7 @@ pub fn end_run<K: Sink>(line: Line, output: &mut K, status: Status, progress: Pr
     ensures { Stopped line.report (ended_with status line.number (seen progress))
         (K.view output.old) (K.view output.new) result }
 {
-    let count = progress.count;
+    let count = progress.beside.count;
     drop(progress);
     end_at(line, output, status, count)
 }
@@ -43,12 +43,12 @@ fn end_done<K: Sink>(line: Line, output: &mut K, progress: Progress) -> Status
 {
     match line.report {
         Report::Joined => {
-            let status = finish_logs(line.alloc, output, &progress.logs);
+            let status = finish_logs(line.alloc, output, &progress.beside.logs);
             drop(progress);
             status
         }
         _ => {
-            let count = progress.count;
+            let count = progress.beside.count;
             drop(progress);
             end_at(line, output, Status::Done, count)
         }
@@ -61,7 +61,7 @@ pub fn end_input<K: Sink>(line: Line, output: &mut K, progress: Progress) -> Sta
     ensures { Stopped line.report (at_end line.number Ended (seen progress))
         (K.view output.old) (K.view output.new) result }
 {
-    if progress.reader.state().ended {
+    if progress.beside.reader.state().ended {
         end_done(line, output, progress)
     } else {
         let lines = line.number;

@@ -1,17 +1,23 @@
-ghost use Rattle.std.specs.Prelude.{◌≡◌, ◌≤◌, ◌-◌};
+ghost use Rattle.std.specs.Prelude.{◌≡◌, ◌≤◌, ◌-◌, IfOk};
 
 use crate::line_reader::LineReader;
-use cg_base::Row;
+use cg_base::{NoMemory, Row};
 use cg_compare::LogList;
 use cg_outcome::{Companion, Report, Totals};
 use cg_world::World;
 use std::alloc::Global;
 
-/// How far a run has come: the world, what its command keeps beside it, the reader of the lines, how many items were
-/// made, what they have shown, and the logs that were read.
+/// How far a run has come: the world, and what stands beside it, which is one box, since a run is moved from call to
+/// call.
 #[derive(Drop)]
 pub struct Progress {
     pub world: World,
+    pub beside: Box<Beside>,
+}
+
+/// What stands beside the world: what the command keeps, the reader of the lines, how many items were made, what they
+/// have shown, and the logs that were read.
+pub struct Beside {
     pub companion: Companion,
     pub reader: LineReader,
     pub count: u64,
@@ -19,22 +25,38 @@ pub struct Progress {
     pub logs: LogList,
 }
 
+impl Drop for Beside {
+    fn drop(self) {
+        let Beside {
+            companion: _,
+            reader: _,
+            count: _,
+            totals: _,
+            logs: _,
+        } = self;
+    }
+}
+
 impl Progress {
     ghost use Rattle.cg_outcome.specs.Produced.{before_all};
     ghost use Rattle.cg_run.specs.Performing.{seen};
 
     /// Before the first line, with this beside the world.
-    pub fn new(alloc: Global, companion: Companion) -> Progress
-        ensures { seen result ≡ before_all companion }
+    pub fn new(alloc: Global, companion: Companion) -> Result<Progress, NoMemory>
+        ensures { IfOk result (λ progress. seen progress ≡ before_all companion) }
     {
-        Progress {
-            world: World::new(alloc),
+        let beside = Beside {
             companion,
             reader: LineReader::new(),
             count: 0,
             totals: Totals::none(),
             logs: Row::new(alloc),
-        }
+        };
+        let beside = Box::new(alloc, beside)?;
+        Ok(Progress {
+            world: World::new(alloc),
+            beside,
+        })
     }
 }
 
@@ -75,13 +97,14 @@ impl Stage {
     ghost use Rattle.cg_run.specs.Performing.{seen_stage};
 
     /// Before the first line, with this beside the world.
-    pub fn first(alloc: Global, companion: Companion) -> Stage
-        ensures { seen_stage result ≡ first_stage companion }
+    pub fn first(alloc: Global, companion: Companion) -> Result<Stage, NoMemory>
+        ensures { IfOk result (λ stage. seen_stage stage ≡ first_stage companion) }
     {
-        Stage {
+        let progress = Progress::new(alloc, companion)?;
+        Ok(Stage {
             line: 1,
             at: 0,
-            progress: Progress::new(alloc, companion),
-        }
+            progress,
+        })
     }
 }

@@ -16,7 +16,7 @@ use cg_schedule::LineFault;
 /// A line can't be read, or memory was refused while it was.
 pub fn refuse_line<K: Sink>(line: Line, output: &mut K, fault: LineFault, count: u64) -> Status
     requires { (K.view output.old).faults < COUNT_LIMIT }
-    ensures { (s : Progress) → s.count ≡ count → (p : Produced) →
+    ensures { (s : Progress) → (seen s).count ≡ count → (p : Produced) →
         (fault ≢ NoMemory → p ≡ unreadable line.number fault (seen s)) → Stopped line.report p
         (K.view output.old) (K.view output.new) result }
 {

@@ -38,7 +38,7 @@ fn carry_out<K: Sink>(
     progress: Progress,
 ) -> Result<Progress, Status>
     requires few_faults { (K.view output.old).faults < COUNT_LIMIT }
-    requires started { progress.reader.started ≡ true }
+    requires started { (seen progress).reader.started ≡ true }
     requires happens { MayHappen (seen progress).world event }
     ensures performs { Performs line.report (happened line.number event (seen progress))
         (K.view output.old) (K.view output.new) result }
@@ -63,10 +63,10 @@ fn finish_line<K: Sink>(
     ensures begun { IfOk result (λ s. HasBegun (seen s)) }
 {
     let mut progress = progress;
-    match progress.reader.finish_line(line.alloc, word, words) {
+    match progress.beside.reader.finish_line(line.alloc, word, words) {
         Ok(event) => carry_out(line, output, event, progress),
         Err(fault) => {
-            let count = progress.count;
+            let count = progress.beside.count;
             drop(progress);
             Err(refuse_line(line, output, fault, count))
         }
@@ -83,18 +83,18 @@ fn begin_event<K: Sink>(
 ) -> Result<Progress, Status>
     requires few_faults { (K.view output.old).faults < COUNT_LIMIT }
     requires under_way { IsUnderWay (seen progress) }
-    requires schedule { is_comparing progress.companion ≡ false }
+    requires schedule { is_comparing (seen progress).companion ≡ false }
     requires plain { IsPlain text.now (seen progress) }
     ensures performs { Performs line.report (line_outcome line.number text.now (seen progress))
         (K.view output.old) (K.view output.new) result }
     ensures under_way { IfOk result (λ s. IsUnderWay (seen s)) }
 {
     lines_are_exact();
-    match progress.reader.begin_line(text) {
+    match progress.beside.reader.begin_line(text) {
         Ok(None) => Ok(progress),
         Ok(Some((word, words))) => finish_line(line, output, word, words, progress),
         Err(fault) => {
-            let count = progress.count;
+            let count = progress.beside.count;
             drop(progress);
             Err(refuse_line(line, output, fault, count))
         }
@@ -127,23 +127,19 @@ fn begin_further<K: Sink>(
 ) -> Result<Progress, Status>
     requires few_faults { (K.view output.old).faults < COUNT_LIMIT }
     requires under_way { IsUnderWay (seen progress) }
-    requires schedule { is_comparing progress.companion ≡ false }
+    requires schedule { is_comparing (seen progress).companion ≡ false }
     ensures performs { Performs line.report (line_outcome line.number text.now (seen progress))
         (K.view output.old) (K.view output.new) result }
     ensures under_way { IfOk result (λ s. IsUnderWay (seen s)) }
 {
     lines_are_exact();
     session_lines_are_exact();
-    match read_in_place(
-        line.alloc,
-        &progress.companion,
-        progress.reader.state(),
-        text,
-    ) {
+    let beside = &*progress.beside;
+    match read_in_place(line.alloc, &beside.companion, beside.reader.state(), text) {
         Ok(None) => begin_event(line, output, text, progress),
         Ok(Some(event)) => carry_further(line, output, event, progress),
         Err(fault) => {
-            let count = progress.count;
+            let count = progress.beside.count;
             drop(progress);
             Err(refuse_line(line, output, fault, count))
         }
@@ -163,7 +159,7 @@ pub fn begin_line<K: Sink>(
         (K.view output.old) (K.view output.new) result }
     ensures under_way { IfOk result (λ s. IsUnderWay (seen s)) }
 {
-    match &progress.companion {
+    match &progress.beside.companion {
         Companion::Alone => begin_event(line, output, text, progress),
         Companion::Comparing => begin_log(line, output, text, progress),
         _ => begin_further(line, output, text, progress),

@@ -93,7 +93,7 @@ pub fn perform<K: Sink>(
     progress: Progress,
 ) -> Result<Progress, Status>
     requires few_faults { (K.view output.old).faults < COUNT_LIMIT }
-    requires started { progress.reader.started ≡ true }
+    requires started { (seen progress).reader.started ≡ true }
     requires happens { MayHappen (seen progress).world event.now }
     ensures performs { Performs line.report (happened line.number event.now (seen progress))
         (K.view output.old) (K.view output.new) result }

@@ -9,12 +9,13 @@ ghost use Rattle.cg_items.specs.Items.{entry_in};
 ghost use Rattle.cg_outcome.specs.Produced.{stepped, one_step};
 ghost use Rattle.cg_outcome.specs.Putting.{Puts};
 ghost use Rattle.cg_outcome.specs.Stopping.{CutShort};
-ghost use Rattle.cg_run.specs.Performing.{seen, Performs};
+ghost use Rattle.cg_model.specs.World.{World as WorldBefore};
+ghost use Rattle.cg_run.specs.Performing.{seen, seen_beside, Counts, Performs};
 ghost use Rattle.cg_outcome.specs.UnderWay.{HasBegun};
 
 use crate::ending::end_at;
 use crate::further::follow;
-use crate::progress::{Line, Progress};
+use crate::progress::{Beside, Line, Progress};
 use cg_base::NoMemory;
 use cg_io::Sink;
 use cg_outcome::{Companion, Further, Limit, STEPS, Status, put_step};
@@ -58,6 +59,52 @@ fn show_step<K: Sink>(
     }
 }
 
+// What a step shows is put, with the lines that follow it beside the world, and the step is counted.
+fn count_entry<K: Sink>(
+    line: Line,
+    output: &mut K,
+    asked: Option<&Further>,
+    world: &World,
+    entry: &Entry,
+    beside: &mut Beside,
+) -> Result<(), Status>
+    requires few_faults { (K.view output.old).faults < COUNT_LIMIT }
+    ensures counts { (before : WorldBefore) (event : Event) → Counts line.report
+        (stepped line.number (option_copied asked.entry) event
+        (record { entry = entry.now; world = world.now.world }) (seen_beside before beside.old))
+        (K.view output.old) (K.view output.new) (seen_beside world.now.world beside.new) result }
+    ensures reader { beside.new.reader ≡ beside.old.reader }
+{
+    let count = beside.count;
+    if count >= STEPS {
+        let status = Status::Limit {
+            line: line.number,
+            what: Limit::Steps,
+        };
+        return Err(end_at(line, output, status, count));
+    }
+    entry_is_short(entry);
+    let Ok(totals) = beside.totals.with_entry(entry) else {
+        return Err(Status::NoMemory);
+    };
+    match show_step(
+        line,
+        output,
+        &mut beside.companion,
+        asked,
+        world,
+        count + 1,
+        entry,
+    ) {
+        Ok(()) => {
+            beside.count = count + 1;
+            beside.totals = totals;
+            Ok(())
+        }
+        Err(status) => Err(status),
+    }
+}
+
 // The step of an event that was admitted, which has led to this world: the rest is as it was before it.
 fn count_step<K: Sink>(
     line: Line,
@@ -67,54 +114,17 @@ fn count_step<K: Sink>(
     entry: Entry,
 ) -> Result<Progress, Status>
     requires few_faults { (K.view output.old).faults < COUNT_LIMIT }
-    requires started { next.reader.started ≡ true }
+    requires started { (seen next).reader.started ≡ true }
     requires hosted { 0 < length (seen next).world.nodes }
-    ensures performs { (s : Progress) (event : Event) → s.companion ≡ next.companion →
-        s.reader ≡ next.reader → s.count ≡ next.count → s.totals ≡ next.totals → s.logs ≡ next.logs →
-        Performs line.report
+    ensures performs { (before : WorldBefore) (event : Event) → Performs line.report
         (stepped line.number (option_copied asked.entry) event
-        (record { entry = entry; world = (seen next).world }) (seen s))
+        (record { entry = entry; world = (seen next).world }) (seen_beside before next.beside.value))
         (K.view output.old) (K.view output.new) result }
     ensures begun { IfOk result (λ s. HasBegun (seen s)) }
 {
-    let Progress {
-        world,
-        mut companion,
-        reader,
-        count,
-        totals,
-        logs,
-    } = next;
-    if count >= STEPS {
-        drop(world);
-        let status = Status::Limit {
-            line: line.number,
-            what: Limit::Steps,
-        };
-        return Err(end_at(line, output, status, count));
-    }
-    entry_is_short(&entry);
-    let Ok(totals) = totals.with_entry(&entry) else {
-        drop(world);
-        return Err(Status::NoMemory);
-    };
-    match show_step(
-        line,
-        output,
-        &mut companion,
-        asked,
-        &world,
-        count + 1,
-        &entry,
-    ) {
-        Ok(()) => Ok(Progress {
-            world,
-            companion,
-            reader,
-            count: count + 1,
-            totals,
-            logs,
-        }),
+    let Progress { world, mut beside } = next;
+    match count_entry(line, output, asked, &world, &entry, &mut beside) {
+        Ok(()) => Ok(Progress { world, beside }),
         Err(status) => {
             drop(world);
             Err(status)
@@ -132,31 +142,17 @@ pub fn take_step<K: Sink>(
     progress: Progress,
 ) -> Result<Progress, Status>
     requires few_faults { (K.view output.old).faults < COUNT_LIMIT }
-    requires started { progress.reader.started ≡ true }
+    requires started { (seen progress).reader.started ≡ true }
     requires stands { MayStand (seen progress).world event.now }
     requires counted { IsCounted event.now }
     ensures performs { Performs line.report (one_step line.number (option_copied asked.entry) event.now (seen progress))
         (K.view output.old) (K.view output.new) result }
     ensures begun { IfOk result (λ s. HasBegun (seen s)) }
 {
-    let Progress {
-        world,
-        companion,
-        reader,
-        count,
-        totals,
-        logs,
-    } = progress;
+    let Progress { world, beside } = progress;
     match world.step(line.alloc, event) {
         Stepped::Done { world, entry } => {
-            let next = Progress {
-                world,
-                companion,
-                reader,
-                count,
-                totals,
-                logs,
-            };
+            let next = Progress { world, beside };
             count_step(line, output, asked, next, entry)
         }
         Stepped::Refused {
@@ -168,7 +164,7 @@ pub fn take_step<K: Sink>(
                 line: line.number,
                 reason,
             };
-            Err(end_at(line, output, status, count))
+            Err(end_at(line, output, status, beside.count))
         }
         Stepped::NoMemory => Err(Status::NoMemory),
     }

@@ -196,8 +196,11 @@ pub fn replay<S: Source, K: Sink>(
     ensures { Replays report companion (S.view input.old) (S.view input.new)
         (K.view output.old) (K.view output.new) result }
 {
+    let Ok(first) = Stage::first(alloc, companion) else {
+        return Status::NoMemory;
+    };
     let mut held = Vec::new(alloc);
-    let mut stage = Stage::first(alloc, companion);
+    let mut stage = first;
     loop {
         match make_turn(alloc, input, output, report, &mut held, stage) {
             Ok(next) => stage = next,

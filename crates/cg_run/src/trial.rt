@@ -74,8 +74,8 @@ fn close_trial<K: Sink>(alloc: Global, output: &mut K, lines: u64, progress: &Pr
     ensures { StopsWith (trial_text (at_end lines Ended (seen progress.now)))
         (status_of (at_end lines Ended (seen progress.now))) (K.view output.old) (K.view output.new) result }
 {
-    let count = progress.count;
-    if !progress.reader.state().ended {
+    let count = progress.beside.count;
+    if !progress.beside.reader.state().ended {
         return finish(
             alloc,
             output,
@@ -86,7 +86,7 @@ fn close_trial<K: Sink>(alloc: Global, output: &mut K, lines: u64, progress: &Pr
         );
     }
     let mut text = Vec::new(alloc);
-    if put_summary(&mut text, count, &progress.totals).is_err() {
+    if put_summary(&mut text, count, &progress.beside.totals).is_err() {
         return Status::NoMemory;
     }
     match put_text(alloc, output, &text) {
@@ -131,8 +131,11 @@ pub fn try_schedule<K: Sink>(
     let Ok(schedule) = Generator::new(alloc, seed, ReplicaId::known(replicas), lines) else {
         return Status::NoMemory;
     };
+    let Ok(first) = Progress::new(alloc, Companion::Alone) else {
+        return Status::NoMemory;
+    };
     let mut events = schedule;
-    let mut progress = Progress::new(alloc, Companion::Alone);
+    let mut progress = first;
     let mut gone = 0;
     loop {
         match events.next(alloc) {

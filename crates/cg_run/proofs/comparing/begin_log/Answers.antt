@@ -1,27 +1,25 @@
-use Rattle.std.proofs.Common.{◌≡◌, Ok, Err, None, Some, Result, Option, refl, sym, ap, subst, ◌∙◌, rules}
-use Rattle.cg_schedule.specs.declared.fault.LineFault.{LineFault}
+use Rattle.std.proofs.Common.{◌≡◌, Ok, Err, None, Some, sym, ap, ◌∙◌, rules}
 use Rattle.cg_schedule.specs.declared.reader_state.ReaderState.{ReaderState}
-use Rattle.cg_schedule.specs.Fault.{Gives}
-use Rattle.cg_compare.specs.declared.log_line.LogLine.{LogLine}
 use Rattle.cg_compare.specs.Lines.{reading}
 use Rattle.cg_outcome.specs.LineLaws.{line-log}
 use Rattle.cg_outcome.specs.Outcome.{line_outcome}
+use Rattle.cg_run.specs.declared.progress.Beside.{Beside}
 use Rattle.cg_run.specs.Performing.{seen}
 use Rattle.cg_run.proofs.comparing.begin_log.Goals as goal
 
 pub returns-in-Ok-None-clause-performs : goal.returns-in-Ok-None-clause-performs
 returns-in-Ok-None-clause-performs g c =
-    let is : reading c.args.progress.reader.ended c.args.text.now ≡ Ok None = search rules in
+    let is : reading (seen c.args.progress).reader.ended c.args.text.now ≡ Ok None = search rules in
     rw (line-log c.args.line.number c.args.text.now (seen c.args.progress) (Ok None) c.requires.compares is) search rules
 
 pub returns-in-Ok-Some-clause-performs : goal.returns-in-Ok-Some-clause-performs
 returns-in-Ok-Some-clause-performs g c =
-    let is : reading c.args.progress.reader.ended c.args.text.now ≡ Ok (Some c.in-Ok-Some.read) = search rules in
+    let is : reading (seen c.args.progress).reader.ended c.args.text.now ≡ Ok (Some c.in-Ok-Some.read) = search rules in
     rw (line-log c.args.line.number c.args.text.now (seen c.args.progress) (Ok (Some c.in-Ok-Some.read)) c.requires.compares is) c.take_line.ensures.performs
 
 pub returns-in-Err-clause-performs : goal.returns-in-Err-clause-performs
 returns-in-Err-clause-performs g c =
     let n = c.args.line.number in
     let s = seen c.args.progress in
-    c.refuse_line.ensures c.args.progress refl (line_outcome n c.args.text.now s)
-    (λ other. line-log n c.args.text.now s (Err c.in-Err.fault) c.requires.compares (ap (λ (state : ReaderState). reading state.ended c.args.text.now) (sym c.state.ensures) ∙ c.in-Err.ensures other))
+    c.refuse_line.ensures c.args.progress (ap (λ (b : Beside). b.count) (sym c.deref-in-Err.ensures)) (line_outcome n c.args.text.now s)
+    (λ other. line-log n c.args.text.now s (Err c.in-Err.fault) c.requires.compares (ap (λ (b : Beside). reading b.reader.ended c.args.text.now) (sym c.deref.ensures) ∙ ap (λ (state : ReaderState). reading state.ended c.args.text.now) (sym c.state.ensures) ∙ c.in-Err.ensures other))

@@ -1,52 +1,54 @@
-use Rattle.std.proofs.Common.{◌≡◌, ◌<◌, ℕ, List, length, Ok, Err, None, Some, Result, Option, refl, sym, ap, subst, ◌∙◌}
+use Rattle.std.proofs.Common.{◌≡◌, ℕ, List, Ok, Err, Some, Result, Option, sym, ap, subst, ◌∙◌}
 use Rattle.cg_schedule.specs.declared.fault.LineFault.{LineFault}
 use Rattle.cg_schedule.specs.declared.reader_state.ReaderState.{ReaderState}
 use Rattle.cg_schedule.specs.Fault.{Gives}
-use Rattle.cg_items.specs.declared.companion.Companion.{Companion}
 use Rattle.cg_items.specs.declared.companion.Further.{Further}
 use Rattle.cg_items.specs.Companion.{further_reading, in_place}
 use Rattle.cg_outcome.specs.FurtherLaws.{AreExact, further-stands, placed_started}
 use Rattle.cg_outcome.specs.LineLaws.{line-further}
 use Rattle.cg_outcome.specs.Outcome.{line_outcome}
+use Rattle.cg_run.specs.declared.progress.Beside.{Beside}
 use Rattle.cg_run.specs.Performing.{seen}
 use Rattle.cg_run.proofs.replay.begin_further.Goals as goal
 
 -- what was read is read where the reader is
-heard : {state reader : ReaderState} (companion : Companion) (text : List ℕ) (read : Result (Option Further) LineFault) → state ≡ reader
-    → Gives (in_place state (further_reading companion text)) read → Gives (in_place reader (further_reading companion text)) read
-heard companion text read is gives = subst (λ (r : ReaderState). Gives (in_place r (further_reading companion text)) read) is gives
+heard : {state : ReaderState} (b beside : Beside) (text : List ℕ) (read : Result (Option Further) LineFault) → b ≡ beside → state ≡ b.reader
+    → Gives (in_place state (further_reading b.companion text)) read → Gives (in_place beside.reader (further_reading beside.companion text)) read
+heard b beside text read same is gives =
+    subst (λ (b : Beside). Gives (in_place b.reader (further_reading b.companion text)) read) same
+    (subst (λ (r : ReaderState). Gives (in_place r (further_reading b.companion text)) read) is gives)
 
 pub begin_event-requires-clause-plain : goal.begin_event-requires-clause-plain
 begin_event-requires-clause-plain g c =
-    let read = in_place c.args.progress.reader (further_reading c.args.progress.companion c.args.text.now) in
-    subst (λ (r : Result (Option Further) LineFault). Gives read r) (c.in-Ok-None.is ∙ ap Ok c.in-Ok-None.field-0-is) (heard c.args.progress.companion c.args.text.now c.read_in_place.result c.state.ensures c.read_in_place.ensures)
+    let read = in_place (seen c.args.progress).reader (further_reading (seen c.args.progress).companion c.args.text.now) in
+    subst (λ (r : Result (Option Further) LineFault). Gives read r) (c.in-Ok-None.is ∙ ap Ok c.in-Ok-None.field-0-is) (heard c.deref-beside.result.now c.args.progress.beside.value c.args.text.now c.read_in_place.result c.deref-beside.ensures c.state.ensures c.read_in_place.ensures)
 
 pub carry_further-requires-clause-begun : goal.carry_further-requires-clause-begun
 carry_further-requires-clause-begun g c =
-    let read = in_place c.args.progress.reader (further_reading c.args.progress.companion c.args.text.now) in
-    let is = subst (λ (r : Result (Option Further) LineFault). Gives read r) (c.in-Ok-Some.is ∙ ap Ok c.in-Ok-Some.field-0-is) (heard c.args.progress.companion c.args.text.now c.read_in_place.result c.state.ensures c.read_in_place.ensures) in
-    let placed = placed_started c.args.progress.reader (further_reading c.args.progress.companion c.args.text.now) c.in-Ok-Some.event is in
+    let read = in_place (seen c.args.progress).reader (further_reading (seen c.args.progress).companion c.args.text.now) in
+    let is = subst (λ (r : Result (Option Further) LineFault). Gives read r) (c.in-Ok-Some.is ∙ ap Ok c.in-Ok-Some.field-0-is) (heard c.deref-beside.result.now c.args.progress.beside.value c.args.text.now c.read_in_place.result c.deref-beside.ensures c.state.ensures c.read_in_place.ensures) in
+    let placed = placed_started (seen c.args.progress).reader (further_reading (seen c.args.progress).companion c.args.text.now) c.in-Ok-Some.event is in
     record { started = placed.0; hosted = c.requires.under_way.begun placed.0 }
 
 pub carry_further-requires-clause-stands : goal.carry_further-requires-clause-stands
 carry_further-requires-clause-stands g c =
-    let read = in_place c.args.progress.reader (further_reading c.args.progress.companion c.args.text.now) in
-    let is = subst (λ (r : Result (Option Further) LineFault). Gives read r) (c.in-Ok-Some.is ∙ ap Ok c.in-Ok-Some.field-0-is) (heard c.args.progress.companion c.args.text.now c.read_in_place.result c.state.ensures c.read_in_place.ensures) in
-    let placed = placed_started c.args.progress.reader (further_reading c.args.progress.companion c.args.text.now) c.in-Ok-Some.event is in
+    let read = in_place (seen c.args.progress).reader (further_reading (seen c.args.progress).companion c.args.text.now) in
+    let is = subst (λ (r : Result (Option Further) LineFault). Gives read r) (c.in-Ok-Some.is ∙ ap Ok c.in-Ok-Some.field-0-is) (heard c.deref-beside.result.now c.args.progress.beside.value c.args.text.now c.read_in_place.result c.deref-beside.ensures c.state.ensures c.read_in_place.ensures) in
+    let placed = placed_started (seen c.args.progress).reader (further_reading (seen c.args.progress).companion c.args.text.now) c.in-Ok-Some.event is in
     let exact : AreExact = record { lines = c.lines_are_exact.ensures.event; sessions = c.session_lines_are_exact.ensures } in
-    further-stands (seen c.args.progress).world c.args.progress.companion c.args.text.now c.in-Ok-Some.event exact (c.requires.under_way.begun placed.0) placed.1
+    further-stands (seen c.args.progress).world (seen c.args.progress).companion c.args.text.now c.in-Ok-Some.event exact (c.requires.under_way.begun placed.0) placed.1
 
 pub returns-in-Ok-Some-clause-performs : goal.returns-in-Ok-Some-clause-performs
 returns-in-Ok-Some-clause-performs g c =
-    let read = in_place c.args.progress.reader (further_reading c.args.progress.companion c.args.text.now) in
-    let is = subst (λ (r : Result (Option Further) LineFault). Gives read r) (c.in-Ok-Some.is ∙ ap Ok c.in-Ok-Some.field-0-is) (heard c.args.progress.companion c.args.text.now c.read_in_place.result c.state.ensures c.read_in_place.ensures) in
+    let read = in_place (seen c.args.progress).reader (further_reading (seen c.args.progress).companion c.args.text.now) in
+    let is = subst (λ (r : Result (Option Further) LineFault). Gives read r) (c.in-Ok-Some.is ∙ ap Ok c.in-Ok-Some.field-0-is) (heard c.deref-beside.result.now c.args.progress.beside.value c.args.text.now c.read_in_place.result c.deref-beside.ensures c.state.ensures c.read_in_place.ensures) in
     rw (line-further c.args.line.number c.args.text.now (seen c.args.progress) (Ok (Some c.in-Ok-Some.event)) c.requires.schedule is) c.carry_further.ensures.performs
 
 pub returns-in-Err-clause-performs : goal.returns-in-Err-clause-performs
 returns-in-Err-clause-performs g c =
     let n = c.args.line.number in
     let s = seen c.args.progress in
-    let read = in_place c.args.progress.reader (further_reading c.args.progress.companion c.args.text.now) in
-    let is = subst (λ (r : Result (Option Further) LineFault). Gives read r) c.in-Err.is (heard c.args.progress.companion c.args.text.now c.read_in_place.result c.state.ensures c.read_in_place.ensures) in
-    c.refuse_line.ensures c.args.progress refl (line_outcome n c.args.text.now s)
+    let read = in_place (seen c.args.progress).reader (further_reading (seen c.args.progress).companion c.args.text.now) in
+    let is = subst (λ (r : Result (Option Further) LineFault). Gives read r) c.in-Err.is (heard c.deref-beside.result.now c.args.progress.beside.value c.args.text.now c.read_in_place.result c.deref-beside.ensures c.state.ensures c.read_in_place.ensures) in
+    c.refuse_line.ensures c.args.progress (ap (λ (b : Beside). b.count) (sym c.deref.ensures)) (line_outcome n c.args.text.now s)
     (λ other. line-further n c.args.text.now s (Err c.in-Err.fault) c.requires.schedule (is other))

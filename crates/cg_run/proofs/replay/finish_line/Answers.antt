@@ -1,8 +1,9 @@
-use Rattle.std.proofs.Common.{refl, ap}
+use Rattle.std.proofs.Common.{sym, ap, ◌∙◌}
 use Rattle.cg_schedule.specs.Line.{event_reading, some_event}
 use Rattle.cg_schedule.specs.Reading.{whole}
 use Rattle.cg_outcome.specs.LineLaws.{word-read}
 use Rattle.cg_outcome.specs.Outcome.{read_outcome}
+use Rattle.cg_run.specs.declared.progress.Beside.{Beside}
 use Rattle.cg_run.specs.Performing.{seen}
 use Rattle.cg_run.proofs.replay.finish_line.Goals as goal
 
@@ -12,5 +13,5 @@ returns-in-Err-clause-performs g c =
     let n = c.args.line.number in
     let s = seen c.args.progress in
     rw (word-read n c.args.word c.args.words s)
-    (c.refuse_line.ensures c.args.progress refl (read_outcome n (some_event read) s)
+    (c.refuse_line.ensures c.args.progress (ap (λ (b : Beside). b.count) (sym c.deref_mut.ensures.value) ∙ ap (λ (b : Beside). b.count) (sym c.deref.ensures)) (read_outcome n (some_event read) s)
     (λ other. ap (λ read. read_outcome n (some_event read) s) (c.in-Err.ensures.event other)))

@@ -12,7 +12,7 @@ use Rattle.cg_items.specs.declared.report.Report.TheVariants.{Whole, Joined}
 use Rattle.cg_outcome.specs.Commands.{command_of}
 use Rattle.cg_outcome.specs.Taking.{Runs}
 use Rattle.cg_outcome.specs.SparedLaws.{read-cause}
-use Rattle.cg_outcome.specs.NearLaws.{Runs-near, Runs-nothing}
+use Rattle.cg_outcome.specs.NearLaws.{Runs-nothing}
 use Rattle.cg_run.proofs.Replaying.{replay-runs, replay-cause}
 use Rattle.cg_run.proofs.running.run_command.Goals as goal
 

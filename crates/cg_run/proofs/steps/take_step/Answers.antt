@@ -1,4 +1,4 @@
-use Rattle.std.proofs.Common.{refl, sym, subst}
+use Rattle.std.proofs.Common.{sym, subst}
 use Rattle.std.specs.Option.{option_copied}
 use Rattle.cg_model.specs.Show.{Moved}
 use Rattle.cg_model.specs.NodeLaws.{IsHosted, step_nodes}
@@ -16,4 +16,4 @@ count_step-requires-clause-hosted g c =
 pub returns-in-Done-clause-performs : goal.returns-in-Done-clause-performs
 returns-in-Done-clause-performs g c =
     rw (one_step-done c.args.line.number (option_copied c.args.asked) c.args.event.now (seen c.args.progress) c.args.progress.world c.in-Done.world c.in-Done.entry c.in-Done.ensures)
-    (c.count_step.ensures.performs c.args.progress c.args.event.now refl refl refl refl refl)
+    (c.count_step.ensures.performs (seen c.args.progress).world c.args.event.now)

@@ -11,7 +11,7 @@ use Rattle.cg_run.proofs.trial.try_schedule.Goals as goal
 
 pub loop-event-init : goal.loop-event-init
 loop-event-init g c =
-    rw (c.in-Ok.ensures, c.known.ensures, c.new-progress.ensures)
+    rw (c.in-Ok.ensures, c.known.ensures, c.in-Ok-new.ensures)
     (Plays-begin c.args.lines (generated c.args.seed c.args.replicas c.args.lines) (g.K.Sink.view c.args.output.now) (before_all Alone)
     (generated-length c.args.seed c.args.replicas c.args.lines) (before_under_way Alone))
 
