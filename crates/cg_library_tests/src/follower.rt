@@ -8,7 +8,8 @@ use cg_db::Db;
 use cg_disk::ModelDisk;
 use cg_follow::{FollowErr, Follower};
 use cg_text::Txt;
-use std::alloc::Global;
+use std::alloc::{AllocGlobal, Global};
+use std::process::Abort;
 use std::test::Fail;
 
 // one action, which adds 5 to "x"
@@ -28,8 +29,8 @@ fn raise(alloc: Global) -> Result<ActionList, NoMemory>
     Ok(list)
 }
 
-#[test]
-fn a_crash_leaves_the_follower_before_or_after(rt: HostRuntime) -> Result<(), Fail> {
+// the cursor of what opens again where the machine stops inside this call of a feed, and this fills what was under way
+fn cursor_after(rt: &(impl Abort + AllocGlobal), call: u64, fill: &[u8]) -> Result<u64, Fail> {
     let alloc = rt.alloc();
     let list = raise(alloc)?;
     let db = Db::new(alloc);
@@ -44,14 +45,23 @@ fn a_crash_leaves_the_follower_before_or_after(rt: HostRuntime) -> Result<(), Fa
     assert!(rt; follower.cursor() == 1);
     assert!(rt; follower.calls() == 3 + 4 + 4);
 
-    // the machine stops inside the first call of a feed
-    follower.stop_at(1);
+    follower.stop_at(call);
     let Err(FollowErr::Lost(disk)) = follower.feed(&list) else {
         return Err("it went on".into());
     };
-    let left = disk.image(b"half of it")?;
-    assert!(rt; left.calls() == 3 + 4 + 4 + 1);
+    let left = disk.image(fill)?;
+    assert!(rt; left.calls() == 3 + 4 + 4 + call);
     let follower = Follower::open(alloc, left).ok().ok_or("no follower")?;
-    assert!(rt; follower.cursor() == 1);
+    Ok(follower.cursor())
+}
+
+#[test]
+fn a_crash_leaves_the_follower_before_or_after(rt: HostRuntime) -> Result<(), Fail> {
+    let before = cursor_after(&rt, 1, b"half of it")?;
+    assert!(rt; before == 1);
+
+    // the third call writes the byte by which the feed counts
+    let after = cursor_after(&rt, 3, b"\x01")?;
+    assert!(rt; after == 2);
     Ok(())
 }

@@ -40,7 +40,7 @@ impl Display for Explained {
             ),
             Status::NoEnd { lines } => write!(
                 f,
-                "the schedule has no last line `end` (its lines: {lines}); add it"
+                "the input has no last line `end` (its lines: {lines}); add it"
             ),
         }
     }

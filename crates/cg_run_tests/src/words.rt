@@ -12,20 +12,20 @@ Usage -> the words are no command; give `replay`, `check`, `follow`, `relaxed`, 
 ReadFault -> reading the input failed; give a file that can be read, by < FILE
 WriteFault -> writing the output failed, so it isn't whole; see whether the disk is full or a pipe was closed
 Limit { line: 2, what: Line } -> line 2 passes a limit: it has more than 32768 bytes; make it shorter
-Limit { line: 2, what: Input } -> line 2 passes a limit: with it the input has more than 8388608 bytes; make the schedule shorter
-Limit { line: 2, what: Lines } -> line 2 passes a limit: with it the input has more than 200000 lines; make the schedule shorter
+Limit { line: 2, what: Input } -> line 2 passes a limit: with it the input has more than 8388608 bytes; make it shorter
+Limit { line: 2, what: Lines } -> line 2 passes a limit: with it the input has more than 200000 lines; make it shorter
 Limit { line: 2, what: Steps } -> line 2 passes a limit: with it the run has more than 2000000 steps; ask for fewer passes or lines
 NoMemory -> memory was refused, so the output isn't whole; give more memory, or a shorter schedule
-NoEnd { lines: 7 } -> the schedule has no last line `end` (its lines: 7); add it
+NoEnd { lines: 7 } -> the input has no last line `end` (its lines: 7); add it
 Syntax { line: 4, reason: 1 } -> line 4 can't be read: it isn't UTF-8; save the file as UTF-8 (reason 1)
-Syntax { line: 4, reason: 2 } -> line 4 can't be read: its first word is no event; events are in lower case, and no byte order mark comes before them (reason 2)
-Syntax { line: 4, reason: 3 } -> line 4 can't be read: it ends too early; docs/SCHEDULES.md has the parts of each event, as `stop 1 0 -` (reason 3)
+Syntax { line: 4, reason: 2 } -> line 4 can't be read: its first word is none that this command reads; words are in lower case, and no byte order mark comes before them (reason 2)
+Syntax { line: 4, reason: 3 } -> line 4 can't be read: it ends too early; docs/SCHEDULES.md has the parts of each line, as `stop 1 0 -` (reason 3)
 Syntax { line: 4, reason: 4 } -> line 4 can't be read: it goes on where it must end, or where `;` or `?` must follow; a comment has a line of its own (reason 4)
 Syntax { line: 4, reason: 5 } -> line 4 can't be read: a number, an identifier or a value is misspelled or out of range; identifiers are 1 to 32, with blanks between them, and texts stand between double quotes (reason 5)
-Syntax { line: 4, reason: 6 } -> line 4 can't be read: a text is misspelled; it stands between double quotes, a key of 1 to 64 bytes, a value of up to 1024; and a `stop` ends with `-` or pairs of hexadecimal digits (reason 6)
-Syntax { line: 4, reason: 7 } -> line 4 can't be read: there is no such command or query; commands are put, del, inc, cas, move and need; queries, in a request after `?`, are get, keys and count (reason 7)
+Syntax { line: 4, reason: 6 } -> line 4 can't be read: a text is misspelled; it stands between double quotes, a key of 1 to 64 bytes, a value of up to 1024; and a `stop` or `fstop` ends with `-` or pairs of hexadecimal digits (reason 6)
+Syntax { line: 4, reason: 7 } -> line 4 can't be read: there is no such command or query; commands are put, del, inc, cas, move and need; queries, which stand after `?` in a request, are get, keys and count (reason 7)
 Syntax { line: 4, reason: 8 } -> line 4 can't be read: an identifier isn't above the one before it, or there are more than 16 commands; name each replica once, in ascending order (reason 8)
-Syntax { line: 4, reason: 9 } -> line 4 can't be read: it comes at the wrong place; `start` is the first event and comes once, `end` is the last (reason 9)
+Syntax { line: 4, reason: 9 } -> line 4 can't be read: it comes at the wrong place; a schedule's `start` is its first event and comes once, `end` is the last line (reason 9)
 NotUp(ReplicaId { number: 3 }) -> line 5 isn't admitted: replica 3 is down; recover it first (reason 1)
 NotRegular(ReplicaId { number: 3 }) -> line 5 isn't admitted: replica 3 is alone, or was split from its configuration; merge it first (reason 2)
 NothingToOrder(ReplicaId { number: 3 }) -> line 5 isn't admitted: replica 3 has no message that waits for a place; leave this line out (reason 3)

@@ -124,12 +124,21 @@ impl World {
         }
     }
 
-    /// The place of the action in the global order, counted from 1; None only where it has none. It takes no memory.
+    /// The place of the action in the global order, counted from 1; None only where it has none. It takes no memory, and as
+    /// many looks as its creator has green actions behind it: the creator replies when the action becomes green there.
     pub fn place_of(&self, id: &ActionId) -> Option<u64>
         ensures { IfSome result (λ n. n ≡ place_of self.now.world.order id.now) }
     {
         orders_run_on();
-        last_place(self.state.order().as_slice(), id)
+        let order = self.state.order().as_slice();
+        let greens = match self.core(id.creator) {
+            Some(core) => core.green_count() as usize,
+            None => 0,
+        };
+        match last_place(order, greens, id) {
+            Some(place) => Some(place),
+            None => last_place(order, order.len(), id),
+        }
     }
 
     /// The replica's position on its last printed line, 0 where it has none or is down there. It takes no memory.

@@ -6,4 +6,10 @@ pub last_place-requires : goal.last_place-requires
 last_place-requires c =
     let w = c.self.inside in
     let led = c.self.invariant in
-    ap (run_on []) (c.as_slice.ensures ∙ c.order.ensures) ∙ c.orders_run_on.ensures led.chronicle w.state led.reached
+    ap (run_on []) (c.as_slice-order.ensures ∙ c.order.ensures) ∙ c.orders_run_on.ensures led.chronicle w.state led.reached
+
+pub last_place-requires-in-None-last_place : goal.last_place-requires-in-None-last_place
+last_place-requires-in-None-last_place c =
+    let w = c.self.inside in
+    let led = c.self.invariant in
+    ap (run_on []) (c.as_slice-order.ensures ∙ c.order.ensures) ∙ c.orders_run_on.ensures led.chronicle w.state led.reached
