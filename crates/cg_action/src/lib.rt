@@ -1,9 +1,10 @@
-//! Actions: what a client asks of the database, or that a server joins or leaves; and what the database holds and answers,
-//! as lines show it: entries, what a query found, and what an action did.
+//! Actions: what a client asks of the database, or that a server joins or leaves. And entries, answers and effects: what
+//! the database holds, what a query finds in it, and what an action has done, as lines show it.
 //!
 //! An action has one spelling in bytes, and what it does has one printed form. `specs/ActionLimits.antt` says which
 //! actions there are: each of these is read again as it was written, and nothing else is read. Where bytes have no
-//! reading, the fault is the first from the left. What actions make of a database is left to the layers above.
+//! reading, the fault is the first from the left. Entries, answers and effects have a printed form alone
+//! (`specs/AnswerPrint.antt`). What actions make of a database is left to the layers above.
 #![tactic(auto)]
 
 mod action;

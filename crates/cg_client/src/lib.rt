@@ -1,12 +1,12 @@
 //! What a replica holds in every state, and what marks, requests, an exchange, an installation and queries make of it.
 //!
-//! The parts of it are each within its limits: the actions that it knows, its own ones that weren't delivered yet, the
-//! requests that it keeps, the servers, what it knows of primary components, and lists of actions, names and messages. A
-//! part is seen as what it holds, and that each value of it has bytes is an invariant of its type: who has the part knows it.
-//!
 //! A `Core` is what a replica holds, and a `Draft` what the event under way has brought about. Each call is a function of
 //! `specs/` on the two of them together, as a `Turn`; for which state it is called, and what goes to the disk, is left to
 //! the layers above. After `NoMemory` nothing is said of the two: they are to be let go.
+//!
+//! A core is made of parts: the actions that it knows, its own ones that weren't delivered yet, the requests that it
+//! keeps, the servers, what it knows of primary components. Each part, and each list of actions, names or messages, is
+//! seen as what it holds; that its values have bytes is an invariant of its type, so who has the part knows it.
 #![tactic(auto)]
 
 mod actions;

@@ -1,11 +1,13 @@
-//! What stands on a replica's disk, in bytes: a checkpoint of all that it held, and the changes that commits made since;
-//! when an event writes there, what a crash in it leaves, and what always holds of what stands there.
+//! What stands on a replica's disk: a checkpoint of all that it held, and the changes that commits made since, in bytes;
+//! when an event writes there, and what a crash in it leaves.
 //!
-//! Each has one spelling (`specs/Change.antt`, `specs/Checkpoint.antt`). What is within the limits is read again as it was
-//! written, and nothing else is read. Records are put from borrowed parts, so that nothing is copied. When an event writes
-//! stands in `specs/Commit.antt`, what a crash leaves in `specs/Crash.antt`, and what holds of all that a replica holds,
-//! whatever comes to it, in `specs/Holds.antt`; the laws of it that speak of no step stand in `specs/Always.antt`. On which
-//! side records stand is left to the layers above.
+//! A checkpoint and a change have one spelling each (`specs/Checkpoint.antt`, `specs/Change.antt`). What is within the
+//! limits is read again as it was written, and nothing else is read. Records are put from borrowed parts, so that nothing
+//! is copied.
+//!
+//! When an event writes (`specs/Commit.antt`) and what a crash leaves (`specs/Crash.antt`) are definitions; that what a
+//! replica holds agrees, whatever comes to it (`specs/Holds.antt`), is a law (`commit_laws.rt`). On which side of the disk
+//! records stand is left to the layers above.
 #![tactic(auto)]
 
 mod agreement;

@@ -9,7 +9,7 @@ use cg_group::Reason;
 use cg_queue::Queue;
 
 impl FollowerList {
-    /// The follower wasn't made.
+    /// The reason against an event of a follower that has to be there, where it wasn't made.
     pub fn unknown(&self, f: u8) -> Option<Reason>
         ensures { result ≡ unknown_follower self.now f }
     {
@@ -19,7 +19,7 @@ impl FollowerList {
         }
     }
 
-    /// The follower is down.
+    /// The reason against an event of a follower that has to be up, where it is down.
     pub fn down(&self, f: u8) -> Option<Reason>
         ensures { result ≡ follower_down self.now f }
     {
@@ -30,7 +30,7 @@ impl FollowerList {
         Some(Reason::FollowerDown(f))
     }
 
-    /// The follower is up.
+    /// The reason against an event of a follower that has to be down, where it is up.
     pub fn up(&self, f: u8) -> Option<Reason>
         ensures { result ≡ follower_up self.now f }
     {
@@ -41,7 +41,8 @@ impl FollowerList {
         Some(Reason::FollowerUp(f))
     }
 
-    /// The follower was shown further than the greens of this queue reach.
+    /// The reason against an event that makes the follower as this queue has its greens, where it was shown further than
+    /// these reach.
     pub fn going_back(&self, f: u8, q: &Queue) -> Option<Reason>
         ensures { result ≡ option_and_then (goes_back q.now) (follower_at self.now f) }
     {
@@ -52,7 +53,8 @@ impl FollowerList {
         None
     }
 
-    /// The queue has discarded actions that the follower would have to take.
+    /// The reason against an event that feeds the follower from this queue, where the queue has discarded actions that the
+    /// follower would have to take.
     pub fn lacking(&self, f: u8, q: &Queue) -> Option<Reason>
         requires { follower_down self.now f ≡ None }
         ensures { result ≡ option_and_then (lacks q.now) (life_at self.now f) }

@@ -50,7 +50,7 @@ impl FollowerList {
     }
 
     /// The follower takes so many of the queue's next greens, or all that are left where these are fewer. Where an armed
-    /// strike falls into its four device calls, it is down.
+    /// strike falls into its four device calls, it is down. `NoMemory` also comes where those calls might go past 2^62.
     pub fn feed(&mut self, f: u8, q: &Queue, count: u64) -> Result<Option<FollowLine>, NoMemory>
         requires { Each IsAction q.now.greens }
         ensures { IfOk result (λ line. changes_to self.old f (feeding q.now count) ≡ noted self.new line) }
@@ -77,7 +77,8 @@ impl FollowerList {
         Ok(line)
     }
 
-    /// A follower that is down comes up from its disk.
+    /// A follower that is down comes up from its disk. `NoMemory` also comes where the disk has made so many calls that
+    /// those of an opening might go past 2^62.
     pub fn recover(&mut self, f: u8) -> Result<Option<FollowLine>, NoMemory>
         requires { follower_up self.old f ≡ None }
         ensures { IfOk result (λ line. changes_to self.old f (λ life. Up (taken_by life) None) ≡ noted self.new line) }

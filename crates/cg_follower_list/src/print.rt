@@ -7,6 +7,7 @@ use crate::FollowLine;
 use std::fmt;
 use std::fmt::{Display, Formatter, Write};
 
+/// The line, without its end.
 impl Display for FollowLine {
     ghost output = { λ line. Some (follow_text line) };
 

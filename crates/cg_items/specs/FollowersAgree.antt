@@ -1,4 +1,5 @@
--- What the followers of a run agree on, read off the lines that were shown alone.
+-- What the followers of a run agree on: over the lines and events of its items, what the world's steps show, the world behind these as far
+-- as tests ask it, and what is kept of the followers. Their cursors are read off lines, as far as lines tell it.
 use Rattle.std.specs.Prelude.{◌≡◌, ℕ, zero, suc, ◌+◌, ◌-◌, ◌==◌, ◌≤◌, nat_lt, nat_le, min, Bool, true, false, not, ◌&&◌, List, [], ◌∷◌, ◌++◌, Option, Some, None, is_none, length, fold, map, option_map, option_and_then, if◌then◌else◌}
 use Rattle.std.specs.List.{list_any, flat_map}
 use Rattle.std.specs.Option.{option_map_or}

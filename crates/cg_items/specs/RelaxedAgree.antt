@@ -1,4 +1,5 @@
--- What a run agrees on that asks for the relaxed database, read off the lines that were shown alone.
+-- What a run agrees on that asks for the relaxed database: over the lines and events of its items, what the world's steps show, and the
+-- world behind these as far as tests ask it. What a replica knows is read off its last line.
 use Rattle.std.specs.Prelude.{◌≡◌, ℕ, not, List, [], ◌∷◌, ◌++◌, Option, Some, None, filter, map, option_and_then}
 use Rattle.std.specs.List.{flat_map}
 use Rattle.std.specs.Option.{option_map_or}

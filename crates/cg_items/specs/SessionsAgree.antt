@@ -1,4 +1,5 @@
--- What the sessions of a run agree on, read off the lines that were shown alone.
+-- What the sessions of a run agree on: over the lines and events of its items, what the world's steps show, and the world behind these
+-- as far as tests ask it. What a session has seen and wrote is read off lines, as far as lines tell it.
 use Rattle.std.specs.Prelude.{◌≡◌, ◌≢◌, ℕ, ◌==◌, nat_lt, ◌≤◌, Bool, false, not, List, [], ◌∷◌, ◌++◌, Option, Some, None, Contains, length, fold, map, take, option_and_then, if◌then◌else◌}
 use Rattle.std.specs.List.{list_any, flat_map}
 use Rattle.cg_base.specs.declared.action_id.ActionId.{ActionId}

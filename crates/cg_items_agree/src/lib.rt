@@ -1,9 +1,9 @@
-//! What all items of a run agree on: the sessions, the followers, the relaxed database, and the logs that its steps show.
+//! What the items of every run agree on: sessions, followers, relaxed queries, and the logs that its steps show.
 //!
-//! The statements stand with what the items of a run are (`cg_items`). They are proved here, each from what the run's steps
-//! agree on: each session reads prefixes of the one order that never get shorter, and holds all that it wrote and was told
-//! of; each follower is a prefix of that order; relaxed queries show what the known actions make; the logs are parts of the
-//! one order.
+//! Laws alone, each of any run, whichever command it was; what they say is stated beside the items themselves (`cg_items`).
+//! Each follows from what the run's steps agree on: a session reads prefixes of the one order that never get shorter, and
+//! holds all that it wrote and was told of; a follower is a prefix of that order; a relaxed query shows what the known
+//! actions make; the logs are parts of the one order.
 #![tactic(auto)]
 
 mod followers;

@@ -1,5 +1,5 @@
-//! Laws on which nothing stands, each with its proof: what a report tells, that generated schedules run to their end, and
-//! that the order of summaries doesn't matter.
+//! Laws on which nothing stands: what a report tells, that generated schedules run to their end, and that the order of
+//! summaries doesn't matter.
 //!
 //! - Two reports with one text come from one transcript, up to silent entries at its end (`told.rt`): nothing that steps
 //!   show is lost in their text, where no number has more digits than are printed; and over runs (`specs/TwoRuns.antt`),

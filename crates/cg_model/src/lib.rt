@@ -1,10 +1,13 @@
-//! One event at one replica, by the table of states; and the world of replicas with disks: whether an event is admitted, the
-//! step that the world takes with it, what the step shows, the runs that such steps make, and what their steps agree on.
+//! One event at one replica, by the table of states; and the world of replicas with disks: whether an event is admitted,
+//! the step that the world takes with it, what the step shows, the runs of such steps, and what their steps agree on.
 //!
-//! Definitions with their laws. An event at a replica keeps what holds of all that the replica holds, and the record of its
-//! commit leads from what stands on the disk to what the commit leaves (`specs/Recorded.antt`); so a replica follows its
-//! disk through events, crashes and recoveries (`specs/Following.antt`). Contracts of the code above cite them; `cg_agree` proves that the steps of every run agree. The
-//! chronicle beside a world and the facts that hold of both (`specs/Chronicle.antt`, `specs/Facts.antt`) are what that proof is about.
+//! Definitions, which contracts of the code above cite, with their laws. The table of states is `specs/ReplicaStep.antt`.
+//! An event keeps what holds of all that a replica holds, and the record of its commit leads from what stands on the disk
+//! to what the commit leaves (`specs/Recorded.antt`); so a replica follows its disk through events, crashes and recoveries
+//! (`specs/Following.antt`).
+//!
+//! That the steps of every run agree is proved in `cg_agree`. The chronicle beside a world and the facts that hold of both
+//! (`specs/Chronicle.antt`, `specs/Facts.antt`) are what that proof is about.
 #![tactic(auto)]
 
 mod step_laws;

@@ -60,7 +60,7 @@ impl SessionList {
         }
     }
 
-    /// The session isn't open.
+    /// The reason against an event of a session that has to be open, where it isn't.
     pub fn unknown_session(&self, s: u8) -> Option<Reason>
         ensures { result ≡ unknown_session self.now s }
     {
@@ -70,7 +70,7 @@ impl SessionList {
         }
     }
 
-    /// The session is open.
+    /// The reason against an event that opens the session, where it is open already.
     pub fn session_used(&self, s: u8) -> Option<Reason>
         ensures { result ≡ session_used self.now s }
     {
