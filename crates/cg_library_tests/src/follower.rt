@@ -1,4 +1,4 @@
-ghost use Rattle.std.specs.Prelude.{IfOk};
+ghost use Rattle.std.specs.Prelude.{◌≤◌, IfOk};
 ghost use Rattle.cg_action.specs.ActionLimits.{IsAction};
 ghost use Rattle.cg_base.specs.Lists.{Each};
 
@@ -30,7 +30,10 @@ fn raise(alloc: Global) -> Result<ActionList, NoMemory>
 }
 
 // the cursor of what opens again where the machine stops inside this call of a feed, and this fills what was under way
-fn cursor_after(rt: &(impl Abort + AllocGlobal), call: u64, fill: &[u8]) -> Result<u64, Fail> {
+fn cursor_after(rt: &(impl Abort + AllocGlobal), call: u64, fill: &[u8]) -> Result<u64, Fail>
+    requires some { 1 ≤ call }
+    requires few { call ≤ 4 }
+{
     let alloc = rt.alloc();
     let list = raise(alloc)?;
     let db = Db::new(alloc);
