@@ -35,6 +35,7 @@
 mod answers;
 mod engine;
 mod laws;
+mod looks;
 mod wreck;
 
 pub use answers::{Handled, Recovered, Started};

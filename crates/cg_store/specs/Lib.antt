@@ -1,4 +1,5 @@
 pub mod Stands
+pub mod Images
 pub mod StoreState
 pub mod Answers
 pub mod Due

@@ -1,5 +1,5 @@
 //! The world, and what is seen of it.
-ghost use Rattle.std.specs.Prelude.{◌≡◌, ◌∷◌, [], ◌&&◌, nat_lt, nat_le, is_some, option_map, IfSome};
+ghost use Rattle.std.specs.Prelude.{◌≡◌, ◌∷◌, [], ◌&&◌, nat_lt, nat_le, is_some, option_map, IfOk, IfSome};
 ghost use Rattle.std.specs.Option.{option_copied};
 ghost use Rattle.cg_base.specs.Cuts.{index_in};
 ghost use Rattle.cg_base.specs.Lists.{first_some};
@@ -11,6 +11,7 @@ ghost use Rattle.cg_model.specs.Making.{printed_position};
 ghost use Rattle.cg_model.specs.Places.{creates, place_of};
 ghost use Rattle.cg_model.specs.World.{replica_of, up_replicas};
 ghost use Rattle.cg_world.specs.MadeActions.{made_named};
+ghost use Rattle.cg_world_events.specs.DiskOut.{GivesDisk};
 ghost use Rattle.cg_world.specs.Standing.{standing_of};
 
 use crate::Standing;
@@ -18,8 +19,9 @@ use crate::made_actions::MadeActions;
 use crate::place::last_place;
 use cg_action::Action;
 use cg_agree::{facts_stand_beside_each_world, orders_run_on};
-use cg_base::{ActionId, IdSet, ReplicaId};
+use cg_base::{ActionId, IdSet, NoMemory, ReplicaId};
 use cg_client::Core;
+use cg_disk::{Disk, ModelDisk};
 use cg_group::Reason;
 use cg_world_events::WorldState;
 use std::alloc::Global;
@@ -166,5 +168,16 @@ impl World {
         ensures action { IfSome (option_copied result) (λ a. (a.id ≡ id) × IsInBook self.now.world a) }
     {
         self.made.get(id)
+    }
+
+    /// The replica's disk as a crash now leaves it, with nothing in the places that weren't synced; None exactly where the
+    /// replica hasn't begun. `NoMemory` too where the disk has made so many calls that those of a recovery might go past
+    /// 2^62.
+    pub fn image(self, p: ReplicaId) -> Result<Option<ModelDisk>, NoMemory>
+        ensures { IfOk result (GivesDisk (⟦<ModelDisk as Disk>⟧.view) self.world p) }
+    {
+        let World { state, made } = self;
+        drop(made);
+        state.into_disk(p)
     }
 }

@@ -7,8 +7,8 @@ pub mod Striking
 pub mod GroundLaws
 pub mod Calls
 pub mod CrashedDisk
+pub mod DiskOut
 pub mod RestingLaws
 pub mod Seen
 pub mod SeenLaws
-pub mod Looks
 pub mod Showing

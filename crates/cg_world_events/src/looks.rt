@@ -6,13 +6,12 @@ ghost use Rattle.cg_report.specs.declared.entry.Shown.TheVariants.{Weak as Shown
 ghost use Rattle.cg_disk_records.specs.Holds.{Holds};
 ghost use Rattle.cg_model.specs.World.{running};
 ghost use Rattle.cg_world_events.specs.Calls.{creates_in, line_in, is_gone, knows_left, knows_server, shows, shows_weak, shows_dirty};
-ghost use Rattle.cg_world_events.specs.Looks.{shown_in};
 
 use crate::node_state::NodeState;
-use crate::{Node, up_line};
+use crate::Node;
 use cg_action::Query;
 use cg_base::{NoMemory, ReplicaId, Row};
-use cg_client::{Core, names_of};
+use cg_client::Core;
 use cg_disk::ModelDisk;
 use cg_engine::Engine;
 use cg_group::Phase;
@@ -95,13 +94,12 @@ impl Node {
     pub fn line(&self, phase: Phase) -> Result<Line, NoMemory>
         ensures { IfOk result (λ l. l ≡ line_in phase self.now) }
     {
-        let id = self.id();
         match &self.life {
-            NodeState::Up { engine, .. } => {
-                let up = up_line(phase, engine.state(), engine.core())?;
-                Ok(Line { id, up: Some(up) })
-            }
-            NodeState::Down(_) => Ok(Line { id, up: None }),
+            NodeState::Up { engine, .. } => engine.line(phase),
+            NodeState::Down(resting) => Ok(Line {
+                id: resting.id(),
+                up: None,
+            }),
         }
     }
 
@@ -110,7 +108,7 @@ impl Node {
         ensures { IfOk result (λ list. list ≡ shows self.now.life) }
     {
         match &self.life {
-            NodeState::Up { engine, .. } => shown_in(alloc, engine.core()),
+            NodeState::Up { engine, .. } => engine.shows(alloc),
             NodeState::Down(_) => Ok(Row::new(alloc)),
         }
     }
@@ -146,18 +144,6 @@ fn core_of(engine: &Engine<ModelDisk>) -> &Core
     // its clause says that the replica follows its disk, so that what it holds agrees
     let _id = engine.id();
     engine.core()
-}
-
-fn shown_in(alloc: Global, core: &Core) -> Result<Row<Shown>, NoMemory>
-    ensures { IfOk result (λ list. list ≡ shown_in core.now) }
-{
-    let p = core.id();
-    let list = names_of(alloc, core.greens()?.as_slice())?;
-    let entries = core.entries()?;
-    let mut shown = Row::new(alloc);
-    shown.push(Shown::Greens { p, list })?;
-    shown.push(Shown::Database { p, entries })?;
-    Ok(shown)
 }
 
 fn weak_in(alloc: Global, p: ReplicaId, core: &Core, query: &Query) -> Result<Row<Shown>, NoMemory>

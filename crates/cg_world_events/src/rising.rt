@@ -1,9 +1,11 @@
-//! Strikes are armed, a replica goes down, and it comes up again.
+//! Strikes are armed, a replica goes down, it comes up again, and its disk is handed out.
 ghost use Rattle.std.specs.Prelude.{◌≡◌, ◌≤◌, List, ℕ, [], Some, IfOk};
 ghost use Rattle.cg_disk_records.specs.Crash.{FailOnce, StopWith};
 ghost use Rattle.cg_model.specs.Show.{news_of_recovery};
+ghost use Rattle.cg_model.specs.World.{node_disk};
 ghost use Rattle.cg_world_events.specs.Calls.{armed, crashed, risen};
 ghost use Rattle.cg_world_events.specs.CrashedDisk.{IsCrashedDisk};
+ghost use Rattle.cg_world_events.specs.DiskOut.{HoldsDisk};
 ghost use Rattle.cg_world_events.specs.Seen.{up_seen, down_seen};
 
 use crate::crashed_disk::CrashedDisk;
@@ -71,6 +73,17 @@ impl Node {
         match self.into_life() {
             NodeState::Up { engine, fill } => Ok((Node::up(engine, fill), None)),
             NodeState::Down(resting) => rise(alloc, resting, made),
+        }
+    }
+
+    /// Its disk as a crash now leaves it, with nothing in the places that weren't synced. `NoMemory` too where a crash has it.
+    pub fn into_disk(self) -> Result<ModelDisk, NoMemory>
+        ensures { IfOk result (λ disk. HoldsDisk self.id (node_disk self.life) (⟦<ModelDisk as Disk>⟧.view disk)) }
+    {
+        let fallen = self.crash()?;
+        match fallen.into_life() {
+            NodeState::Up { .. } => unreachable!(),
+            NodeState::Down(resting) => Ok(resting.into_wreck().into_disk()),
         }
     }
 

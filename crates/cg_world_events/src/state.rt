@@ -14,6 +14,7 @@ ghost use Rattle.cg_model.specs.World.{NodeState, no_world, running, node_of, se
 ghost use Rattle.cg_model.specs.Show.{line_of};
 ghost use Rattle.cg_model.specs.Touched.{new_lines_of};
 ghost use Rattle.cg_world_events.specs.StepInProgress.{said, hosted, fallen, with_news};
+ghost use Rattle.cg_world_events.specs.DiskOut.{GivesDisk};
 ghost use Rattle.cg_world_events.specs.Hosting.{with_left};
 
 use crate::admission::{hidden, takes_part};
@@ -24,6 +25,7 @@ use crate::transfers::Transfers;
 use crate::{Lines, Node};
 use cg_base::{IdList, IdSet, NoMemory, ReplicaId, Row};
 use cg_client::Core;
+use cg_disk::{Disk, ModelDisk};
 use cg_encoded::EncodedMsg;
 use cg_group::{Group, Reason};
 use cg_report::Line;
@@ -223,6 +225,20 @@ impl WorldState {
         ensures { result ≡ has self.now.named p }
     {
         self.named.contains(p)
+    }
+
+    /// The replica's disk as a crash now leaves it, with nothing in the places that weren't synced; None exactly where the
+    /// replica hasn't begun. `NoMemory` too where a crash has it.
+    pub fn into_disk(self, p: ReplicaId) -> Result<Option<ModelDisk>, NoMemory>
+        ensures { IfOk result (GivesDisk (⟦<ModelDisk as Disk>⟧.view) self p) }
+    {
+        let mut world = self;
+        let node = world.nodes.take(p);
+        drop(world);
+        match node {
+            Some(node) => Ok(Some(node.into_disk()?)),
+            None => Ok(None),
+        }
     }
 
     // The node of a replica that is up is taken out; any other stays.
