@@ -21,20 +21,20 @@ impl Drop for EncodedMsg {
 
 impl Model for EncodedMsg {
     ghost use Rattle.cg_wire.specs.declared.message.Msg.{Msg};
-    ghost use Rattle.cg_encoded.specs.Letter.{letter_in, IsLetter};
+    ghost use Rattle.cg_encoded.specs.Encoded.{encoded_by, IsEncoded};
 
     ghost Value = { Msg };
 
-    ghost view = { λ l. letter_in l.bytes };
+    ghost view = { λ m. encoded_by m.bytes };
 
-    ghost invariant = { λ l. IsLetter l.bytes };
+    ghost invariant = { λ m. IsEncoded m.bytes };
 }
 
 impl EncodedMsg {
     /// The message in bytes.
     pub fn seal(alloc: Global, m: &Msg) -> Result<EncodedMsg, NoMemory>
         requires { IsMsg m.now }
-        ensures { IfOk result (λ l. l ≡ m.now) }
+        ensures { IfOk result (λ encoded. encoded ≡ m.now) }
     {
         messages_are_exact();
         let bytes = encode(alloc, m)?;

@@ -1,7 +1,7 @@
 //! A message in bytes, as the group carries it: bytes that are known to spell a message, and are seen as that message.
 //!
-//! The one contract: a letter is made from what its message says, spelled once, and a group of letters is a group of
-//! messages in every clause. What a letter says is read by `cg_wire` where it is handed out.
+//! The one contract: an encoded message is made from its message, spelled once, and a group of encoded messages is a
+//! group of messages in every clause. What one says is read by `cg_wire` where it is handed out.
 #![tactic(auto)]
 
 mod encoded_msg;

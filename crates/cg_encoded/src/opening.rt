@@ -1,5 +1,5 @@
 ghost use Rattle.std.specs.Prelude.{◌≡◌, IfOk, OnOk, map};
-ghost use Rattle.cg_encoded.specs.Letter.{opened, IsSaid, AreSaid};
+ghost use Rattle.cg_encoded.specs.Encoded.{opened, IsSaid, AreSaid};
 
 use crate::EncodedMsg;
 use cg_base::{NoMemory, Row};

@@ -12,7 +12,7 @@ use Rattle.cg_store.specs.StoreState.{StoreState}
 use Rattle.cg_store.specs.Stands.{OnDisk, committed}
 use Rattle.cg_store.specs.declared.errors.CommitErr.{CommitErr}
 use Rattle.cg_store.specs.declared.outputs.Outputs.{Outputs}
-use Rattle.cg_replica.specs.Seen.{turn_of}
+use Rattle.cg_engine.specs.Seen.{turn_of}
 
 module _ {D : Type 0} (view : D → DiskView) (k : StoreState D) (u : OnDisk) (r : Replica) (d : DraftParts) (core : Held) (same : core ≡ r.held) (a : Result (StoreState D × Outputs) (CommitErr D)) where
   pub ended_at :

@@ -24,7 +24,7 @@ use Rattle.cg_store.specs.Stands.{OnDisk, Stands, disk_of, committed, checkpoint
 use Rattle.cg_store.specs.declared.errors.CommitErr.{CommitErr}
 use Rattle.cg_store.specs.declared.errors.CommitErr.TheVariants.{Lost, NoMemory}
 use Rattle.cg_store.specs.declared.outputs.Outputs.{Outputs}
-use Rattle.cg_replica.specs.Seen.{turn_of}
+use Rattle.cg_engine.specs.Seen.{turn_of}
 use Rattle.cg_engine.specs.Answers.{parts_of, answer_of, Leaves, EndsEvent}
 use Rattle.cg_engine.specs.Engines.{Fallen}
 use Rattle.cg_engine.specs.Ending.{MayEnd, MaySave, MayGoOn, up, wreck_of, fallen, saved, Checkpoints, Saves, GoesOn}

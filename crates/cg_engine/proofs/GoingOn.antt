@@ -14,7 +14,7 @@ use Rattle.cg_store.specs.StoreState.{StoreState}
 use Rattle.cg_store.specs.Stands.{OnDisk, Stands, disk_of, checkpointed}
 use Rattle.cg_store.specs.declared.errors.CommitErr.{CommitErr}
 use Rattle.cg_store.specs.declared.outputs.Outputs.{Outputs}
-use Rattle.cg_replica.specs.Seen.{white_in}
+use Rattle.cg_engine.specs.Seen.{white_in}
 use Rattle.cg_engine.specs.Engines.{IsEngine}
 use Rattle.cg_engine.specs.Ending.{MaySave, MayGoOn, up, saved, Checkpoints, Saves, GoesOn}
 use Rattle.cg_engine.specs.declared.answers.Handled.{Handled}

@@ -1,3 +1,6 @@
+pub mod Seen
+pub mod Inputs
+pub mod InputLaws
 pub mod Engines
 pub mod Answers
 pub mod Ending

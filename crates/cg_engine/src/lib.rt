@@ -1,9 +1,13 @@
 //! The engine: one replica with its disk. One event is one step of the replica, and at most one commit.
 //!
-//! The one contract: `Engine::handle` is `replica_step` of `cg_model` on what comes, and ends as the event's commit ends at
-//! the store (`specs/Answers.antt`). Whatever strikes, at each moment every image of the disk stands for the state before
-//! the event or for the one behind it, and `Engine::recover` brings up what the disk stands for. What an event gives out is
-//! had behind its commit alone.
+//! A `Replica` is what it is in memory, in whichever state; `Replica::step` is the table of states as one function,
+//! `replica_step` of `cg_model`, on the deliveries that are read in the bytes, or on a request; of a delivery whose bytes
+//! spell no message nothing comes.
+//!
+//! The one contract: `Engine::handle` is `replica_step` on what comes, and ends as the event's commit ends at the store
+//! (`specs/Answers.antt`). Whatever strikes, at each moment every image of the disk stands for the state before the event
+//! or for the one behind it, and `Engine::recover` brings up what the disk stands for. What an event gives out is had
+//! behind its commit alone.
 //!
 //! A replica is started, crashes, and comes up again, as in `crates/cg_replica_tests/src/engine.rt`:
 //!
@@ -33,14 +37,21 @@
 #![tactic(auto)]
 
 mod answers;
+mod attempt;
 mod engine;
+mod input;
 mod laws;
 mod looks;
+mod member_state;
+mod out_of_prim;
+mod prim;
+mod replica;
 mod wreck;
 
 pub use answers::{Handled, Recovered, Started};
-pub use cg_replica::Input;
 pub use cg_store::Outputs;
 pub use engine::Engine;
+pub use input::Input;
 pub use laws::events_end_as_defined;
+pub use replica::Replica;
 pub use wreck::Wreck;

@@ -1,6 +1,6 @@
 use cg_base::{IdSet, ReplicaId, WeightSet};
+use cg_engine::{Input, Replica};
 use cg_group::{Delivery, DeliveryList};
-use cg_replica::{Input, Replica};
 use cg_report::StateName;
 use std::test::Fail;
 

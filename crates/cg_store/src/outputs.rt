@@ -5,7 +5,7 @@ use cg_base::{IdList, Row};
 use cg_encoded::EncodedMsg;
 use cg_report::Reply;
 
-/// What an event gives out behind its commit. Clauses see the messages in its letters.
+/// What an event gives out behind its commit. Clauses see the messages that are sent, and not their bytes.
 pub struct Outputs {
     pub(crate) made: ActionList,
     pub(crate) sent: Row<EncodedMsg>,

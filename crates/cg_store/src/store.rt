@@ -10,9 +10,9 @@ ghost use Rattle.cg_client.specs.Drafts.{turn_with};
 ghost use Rattle.cg_client.specs.Replica.{State};
 
 use crate::finding::{OpenedSide, find, other};
-use crate::letters::seal_all;
 use crate::pending_record::{PendingRecord, prepare};
 use crate::records::checkpoint_record;
+use crate::sealing::seal_all;
 use crate::unwritten::Unwritten;
 use crate::{CommitErr, OpenErr, Outputs};
 use cg_action::ActionList;
@@ -144,7 +144,7 @@ impl<D: Disk> Store<D> {
         changes_are_exact();
         let alloc = core.alloc();
         match self.ready(alloc, core, &draft) {
-            Ok((letters, due)) => self.finish(alloc, draft.into_parts(), letters, due),
+            Ok((encoded, due)) => self.finish(alloc, draft.into_parts(), encoded, due),
             Err(_) => {
                 draft.abandon();
                 Err(CommitErr::NoMemory(self.into_disk()))
@@ -159,27 +159,27 @@ impl<D: Disk> Store<D> {
         core: &Core,
         draft: &Draft,
     ) -> Result<(Row<EncodedMsg>, Option<PendingRecord>), NoMemory>
-        ensures letters { IfOk result (λ r. r.0 ≡ draft.now.sent) }
+        ensures encoded { IfOk result (λ r. r.0 ≡ draft.now.sent) }
         ensures short { IfOk result (λ r. IfSome r.1 (λ x. length x.body < LIST_LIMIT)) }
         ensures due { IfOk result (λ r. (u : OnDisk) (state : State) →
             Stands self.now.id (D.view self.now.disk).reads u →
             IsReady u.content self.now.unwritten core.now draft.now state r.1) }
     {
-        let letters = seal_all(alloc, draft.sent().as_slice())?;
+        let encoded = seal_all(alloc, draft.sent().as_slice())?;
         let unwritten = self.unwritten.as_slice();
         let due = prepare(alloc, &self.values, unwritten, core, draft)?;
-        Ok((letters, due))
+        Ok((encoded, due))
     }
 
     fn finish(
         self,
         alloc: Global,
         parts: DraftParts,
-        letters: Row<EncodedMsg>,
+        encoded: Row<EncodedMsg>,
         due: Option<PendingRecord>,
     ) -> Result<(Store<D>, Outputs), CommitErr<D>>
         requires calls { (D.view self.disk).time + 4 ≤ COUNT_LIMIT }
-        requires letters { letters ≡ parts.sent }
+        requires encoded { encoded ≡ parts.sent }
         requires known { Each IsAction parts.known }
         requires short { IfSome due (λ x. length x.body < LIST_LIMIT) }
         requires leads { (u : OnDisk) → Stands self.id (D.view self.disk).reads u → IfSome due (IsLed u) }
@@ -198,7 +198,7 @@ impl<D: Disk> Store<D> {
         } = parts;
         let outputs = Outputs {
             made,
-            sent: letters,
+            sent: encoded,
             replies,
             green,
             written: due.is_some(),

@@ -309,8 +309,8 @@ fn say_all(
 ) -> Result<(), NoMemory>
     ensures { OnOk result (group.new ≡ send_all group.old p sent) }
 {
-    for letter in sent.into_vec() {
-        let _waits = group.send(p, letter)?;
+    for encoded in sent.into_vec() {
+        let _waits = group.send(p, encoded)?;
     }
     Ok(())
 }

@@ -5,7 +5,7 @@ ghost use Rattle.cg_action.specs.Limits.{IsKind};
 ghost use Rattle.cg_action.specs.declared.action.Action.{Action};
 ghost use Rattle.cg_base.specs.declared.action_id.ActionId.{ActionId};
 ghost use Rattle.cg_client.specs.Calls.{kind_of};
-ghost use Rattle.cg_replica.specs.Inputs.{input_of, HasLimits};
+ghost use Rattle.cg_engine.specs.Inputs.{input_of, HasLimits};
 ghost use Rattle.cg_model.specs.Recorded.{AreBooked};
 ghost use Rattle.cg_model.specs.ReplicaStep.{Deliveries, Asks};
 ghost use Rattle.cg_model.specs.World.{Up};

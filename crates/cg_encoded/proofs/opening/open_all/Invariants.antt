@@ -1,6 +1,6 @@
 use Rattle.std.proofs.Common.{◌≡◌, ◌++◌, map}
 use Rattle.std.specs.Vec.Iter.{into_iter_items}
-use Rattle.cg_encoded.specs.Letter.{opened, AreSaid}
+use Rattle.cg_encoded.specs.Encoded.{opened, AreSaid}
 use Rattle.cg_encoded.proofs.opening.open_all.Given as goal
 
 -- those opened so far and those that are left are all, and where those that are left are within their limits all are

@@ -1,6 +1,6 @@
 use Rattle.std.proofs.Common.{refl, ◌∙◌, arith}
 use Rattle.cg_disk.specs.Model.{view_of, state_of}
-use Rattle.cg_replica.specs.Inputs.{input_of}
+use Rattle.cg_engine.specs.Inputs.{input_of}
 use Rattle.cg_model.specs.ReplicaStep.{replica_step}
 use Rattle.cg_engine.specs.FallLaws.{fallen_within}
 use Rattle.cg_world_events.proofs.Events.{goes_on, falls_down, fallen_so}

@@ -1,5 +1,5 @@
 use Rattle.cg_disk_records.specs.Commit.{commits}
-use Rattle.cg_replica.specs.Seen.{turn_of}
+use Rattle.cg_engine.specs.Seen.{turn_of}
 use Rattle.cg_engine.proofs.engine.Engine.end.Goals as goal
 
 pub returns-in-Err : goal.returns-in-Err

@@ -4,8 +4,8 @@ use Rattle.cg_disk_records.specs.Commit.{commits}
 use Rattle.cg_model.specs.Recorded.{AreBooked}
 use Rattle.cg_model.specs.ReplicaStep.{replica_step}
 use Rattle.cg_store.specs.Stands.{Stands}
-use Rattle.cg_replica.specs.Inputs.{input_of}
-use Rattle.cg_replica.specs.Seen.{turn_of}
+use Rattle.cg_engine.specs.Inputs.{input_of}
+use Rattle.cg_engine.specs.Seen.{turn_of}
 use Rattle.cg_engine.specs.Engines.{Up}
 use Rattle.cg_engine.specs.Answers.{HandlesEvent}
 use Rattle.cg_engine.specs.Ending.{up}

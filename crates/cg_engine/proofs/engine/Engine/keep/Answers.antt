@@ -1,4 +1,4 @@
-use Rattle.cg_replica.specs.Seen.{turn_of}
+use Rattle.cg_engine.specs.Seen.{turn_of}
 use Rattle.cg_engine.proofs.Rising.{open_engine}
 use Rattle.cg_engine.proofs.engine.Engine.keep.Goals as goal
 

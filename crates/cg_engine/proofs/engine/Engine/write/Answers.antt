@@ -1,6 +1,6 @@
 use Rattle.std.proofs.Common.{Ok, Err, refl, subst}
 use Rattle.cg_disk_records.specs.Commit.{commits}
-use Rattle.cg_replica.specs.Seen.{turn_of}
+use Rattle.cg_engine.specs.Seen.{turn_of}
 use Rattle.cg_engine.specs.Answers.{EndsEvent}
 use Rattle.cg_engine.specs.declared.answers.Handled.{Handled}
 use Rattle.cg_engine.proofs.Committing.{ended_at, moments_at}
