@@ -3,7 +3,7 @@ mod Crashing
 mod Filling
 mod Images
 mod Moments
-mod Places
+mod Offsets
 mod Strikes
 mod Tearing
 mod Undoing

@@ -25,21 +25,21 @@ drop_behind : (front bytes : List ℕ) (n : ℕ) → drop (length front + n) (fr
 drop_behind front bytes n = sym (drop-drop n (length front) (front ++ bytes)) ∙ ap (λ (l : List ℕ). drop n l) (drop_at front bytes (length front) refl)
 
 abbrev taken_back : Written → ℕ → List ℕ → List ℕ
-taken_back w from bytes = take (w.place - from) bytes ++ w.before.items ++ drop (w.place - from + w.count) bytes
+taken_back w from bytes = take (w.offset - from) bytes ++ w.before.items ++ drop (w.offset - from + w.count) bytes
 
-undo_behind : (w : Written) (front bytes : List ℕ) → length front ≤ w.place → front ++ taken_back w (length front) bytes ≡ undo w (front ++ bytes)
+undo_behind : (w : Written) (front bytes : List ℕ) → length front ≤ w.offset → front ++ taken_back w (length front) bytes ≡ undo w (front ++ bytes)
 undo_behind w front bytes above =
-    let n = w.place - length front in
-    let at : length front + n ≡ w.place = omega arith in
-    let to : length front + (n + w.count) ≡ w.place + w.count = omega arith in
+    let n = w.offset - length front in
+    let at : length front + n ≡ w.offset = omega arith in
+    let to : length front + (n + w.count) ≡ w.offset + w.count = omega arith in
     ap (λ (l : List ℕ). front ++ l) (append_assoc (take n bytes) w.before.items (drop (n + w.count) bytes))
     ∙ sym (append_assoc front (take n bytes) (w.before.items ++ drop (n + w.count) bytes))
     ∙ ap (λ (l : List ℕ). l ++ (w.before.items ++ drop (n + w.count) bytes)) (sym (take_behind front bytes n) ∙ ap (λ k. take k (front ++ bytes)) at)
-    ∙ ap (λ (l : List ℕ). take w.place (front ++ bytes) ++ (w.before.items ++ l)) (sym (drop_behind front bytes (n + w.count)) ∙ ap (λ k. drop k (front ++ bytes)) to)
-    ∙ sym (append_assoc (take w.place (front ++ bytes)) w.before.items (drop (w.place + w.count) (front ++ bytes)))
+    ∙ ap (λ (l : List ℕ). take w.offset (front ++ bytes) ++ (w.before.items ++ l)) (sym (drop_behind front bytes (n + w.count)) ∙ ap (λ k. drop k (front ++ bytes)) to)
+    ∙ sym (append_assoc (take w.offset (front ++ bytes)) w.before.items (drop (w.offset + w.count) (front ++ bytes)))
 
 -- one write less
-pub undone_behind : (writes : List Written) (n : ℕ) (w : Written) (front bytes before total : List ℕ) (from : ℕ) → n < length writes → w ≡ get_or writes n w → length front ≡ from → from ≤ w.place → before ≡ taken_back w from bytes
+pub undone_behind : (writes : List Written) (n : ℕ) (w : Written) (front bytes before total : List ℕ) (from : ℕ) → n < length writes → w ≡ get_or writes n w → length front ≡ from → from ≤ w.offset → before ≡ taken_back w from bytes
     → undone (front ++ bytes) (reverse (take (n + 1) writes)) ≡ total → undone (front ++ before) (reverse (take n writes)) ≡ total
 undone_behind writes n w front bytes before total from inside item size above is so_far =
     let newest : reverse (take (n + 1) writes) ≡ w ∷ reverse (take n writes) =
@@ -48,33 +48,33 @@ undone_behind writes n w front bytes before total from inside item size above is
     ap (λ (l : List ℕ). front ++ l) (is ∙ ap (λ k. taken_back w k bytes) (sym size)) ∙ undo_behind w front bytes (omega arith) in
     ap (λ (l : List ℕ). undone l (reverse (take n writes))) back ∙ ap (λ (l : List Written). undone (front ++ bytes) l) (sym newest) ∙ so_far
 
-module _ (old new : List ℕ) (place : ℕ) (inside : place ≤ length old) where
-  size : length (take place old) ≡ place
-  size = length-take-le place old inside
+module _ (old new : List ℕ) (offset : ℕ) (inside : offset ≤ length old) where
+  size : length (take offset old) ≡ offset
+  size = length-take-le offset old inside
 
-  pub take_overwritten : take place (overwritten old place new) ≡ take place old
-  take_overwritten = ap (λ (l : List ℕ). take place l) (append_assoc (take place old) new _) ∙ take_at (take place old) _ place size
+  pub take_overwritten : take offset (overwritten old offset new) ≡ take offset old
+  take_overwritten = ap (λ (l : List ℕ). take offset l) (append_assoc (take offset old) new _) ∙ take_at (take offset old) _ offset size
 
-  pub drop_overwritten : drop (place + length new) (overwritten old place new) ≡ drop (place + length new) old
-  drop_overwritten = drop_at (take place old ++ new) _ (place + length new) (length-append (take place old) new ∙ ap (λ n. n + length new) size)
+  pub drop_overwritten : drop (offset + length new) (overwritten old offset new) ≡ drop (offset + length new) old
+  drop_overwritten = drop_at (take offset old ++ new) _ (offset + length new) (length-append (take offset old) new ∙ ap (λ n. n + length new) size)
 
-  pub length-overwritten : length (overwritten old place new) ≡ place + length new + (length old - (place + length new))
-  length-overwritten = omega (arith, size, length-append (take place old ++ new) (drop (place + length new) old), length-append (take place old) new, length-drop (place + length new) old)
+  pub length-overwritten : length (overwritten old offset new) ≡ offset + length new + (length old - (offset + length new))
+  length-overwritten = omega (arith, size, length-append (take offset old ++ new) (drop (offset + length new) old), length-append (take offset old) new, length-drop (offset + length new) old)
 
-  split : take place old ++ take (length new) (drop place old) ++ drop (place + length new) old ≡ old
+  split : take offset old ++ take (length new) (drop offset old) ++ drop (offset + length new) old ≡ old
   split =
-      append_assoc (take place old) (take (length new) (drop place old)) (drop (place + length new) old)
-      ∙ ap (λ (l : List ℕ). take place old ++ (take (length new) (drop place old) ++ l)) (sym (drop-drop (length new) place old))
-      ∙ ap (λ (l : List ℕ). take place old ++ l) (take-append-drop (length new) (drop place old))
-      ∙ take-append-drop place old
+      append_assoc (take offset old) (take (length new) (drop offset old)) (drop (offset + length new) old)
+      ∙ ap (λ (l : List ℕ). take offset old ++ (take (length new) (drop offset old) ++ l)) (sym (drop-drop (length new) offset old))
+      ∙ ap (λ (l : List ℕ). take offset old ++ l) (take-append-drop (length new) (drop offset old))
+      ∙ take-append-drop offset old
 
-  pub undo_overwritten : (w : Written) → w.place ≡ place → w.count ≡ length new → w.before.items ≡ take (min (length new) (length old - place)) (drop place old) → undo w (overwritten old place new) ≡ old
+  pub undo_overwritten : (w : Written) → w.offset ≡ offset → w.count ≡ length new → w.before.items ≡ take (min (length new) (length old - offset)) (drop offset old) → undo w (overwritten old offset new) ≡ old
   undo_overwritten w at count before =
-      let over : w.before.items ≡ take (length new) (drop place old) = before ∙ ap (λ n. take (min (length new) n) (drop place old)) (sym (length-drop place old)) ∙ take_min (length new) (drop place old) in
+      let over : w.before.items ≡ take (length new) (drop offset old) = before ∙ ap (λ n. take (min (length new) n) (drop offset old)) (sym (length-drop offset old)) ∙ take_min (length new) (drop offset old) in
       rw (at, count, over, take_overwritten, drop_overwritten) split
 
   -- a side after one write more
-  module _ (writes next : List Written) (w : Written) (bytes : List ℕ) (at : w.place ≡ place) (count : w.count ≡ length new) (before : w.before.items ≡ take (min (length new) (length old - place)) (drop place old)) (wrote : bytes ≡ overwritten old place new) (more : next ≡ writes ++ w ∷ []) where
+  module _ (writes next : List Written) (w : Written) (bytes : List ℕ) (at : w.offset ≡ offset) (count : w.count ≡ length new) (before : w.before.items ≡ take (min (length new) (length old - offset)) (drop offset old)) (wrote : bytes ≡ overwritten old offset new) (more : next ≡ writes ++ w ∷ []) where
     newest : reverse next ≡ w ∷ reverse writes
     newest = ap reverse more ∙ reverse_push writes w
 
@@ -84,11 +84,11 @@ module _ (old new : List ℕ) (place : ℕ) (inside : place ≤ length old) wher
         ∙ ap (λ (l : List ℕ). undone (undo w l) (reverse writes)) wrote
         ∙ ap (λ (l : List ℕ). undone l (reverse writes)) (undo_overwritten w at count before)
 
-    places : ranges (reverse next) ≡ record { from = place; to = place + length new } ∷ ranges (reverse writes)
-    places = ap ranges newest ∙ (λ i. record { from = at i; to = at i + count i } ∷ ranges (reverse writes))
+    offsets : ranges (reverse next) ≡ record { from = offset; to = offset + length new } ∷ ranges (reverse writes)
+    offsets = ap ranges newest ∙ (λ i. record { from = at i; to = at i + count i } ∷ ranges (reverse writes))
 
-    pub one_more : side_after bytes (reverse next) ≡ wrote_side place new (side_after old (reverse writes))
-    one_more = λ i. record { old = same_old i; seen = wrote i; unsynced = places i }
+    pub one_more : side_after bytes (reverse next) ≡ wrote_side offset new (side_after old (reverse writes))
+    one_more = λ i. record { old = same_old i; seen = wrote i; unsynced = offsets i }
 
     pub grown : length (undone old (reverse writes)) ≤ length old → length (undone bytes (reverse next)) ≤ length bytes
     grown so_far = rw (same_old, wrote, length-overwritten) (omega arith)

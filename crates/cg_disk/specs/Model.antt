@@ -103,8 +103,8 @@ Counts old new (Err Failed) = IsStopped old new ⊎ FailsOnce old new
 Counts old new (Err NoMemory) = ⊥
 
 -- these bytes were written on a side, and nothing else has changed of the sides and the sync points
-pub record IsWritten (side : Side) (place : ℕ) (bytes : List ℕ) (old new : ModelDisk) : Type 0 where
-  pub a : side_of new.a ≡ (wrote side place bytes (state_of old)).a
-  pub b : side_of new.b ≡ (wrote side place bytes (state_of old)).b
+pub record IsWritten (side : Side) (offset : ℕ) (bytes : List ℕ) (old new : ModelDisk) : Type 0 where
+  pub a : side_of new.a ≡ (wrote side offset bytes (state_of old)).a
+  pub b : side_of new.b ≡ (wrote side offset bytes (state_of old)).b
   pub past : new.past.items ≡ old.past.items
   pub begun : new.begun ≡ old.begun

@@ -40,7 +40,7 @@ shown d = record { a = d.a.seen; b = d.b.seen }
 
 -- the offset was written since the last sync
 abbrev pub is_unsynced : List Range → ℕ → Bool
-is_unsynced ranges place = list_any (λ r. nat_le r.from place && nat_lt place r.to) ranges
+is_unsynced ranges offset = list_any (λ r. nat_le r.from offset && nat_lt offset r.to) ranges
 
 -- a crash may leave this of a side: any bytes at the unsynced offsets, and any end from the old one on
 pub record LeavesSide (s : SideState) (c : List ℕ) : Type 0 where
@@ -54,17 +54,17 @@ pub record Leaves (a b : SideState) (c : Image) : Type 0 where
   pub on_b : LeavesSide b c.b
 
 -- one unsynced offset gets the next byte of the fill; without one its old byte stays, and without that the side ends
-abbrev pub fill_place : List ℕ → Option ℕ → (List ℕ → List ℕ) → List ℕ
-fill_place (byte ∷ fill) old rest = byte ∷ rest fill
-fill_place [] (Some byte) rest = byte ∷ rest []
-fill_place [] None rest = []
+abbrev pub fill_offset : List ℕ → Option ℕ → (List ℕ → List ℕ) → List ℕ
+fill_offset (byte ∷ fill) old rest = byte ∷ rest fill
+fill_offset [] (Some byte) rest = byte ∷ rest []
+fill_offset [] None rest = []
 
 -- the bytes of a side from an offset on after a crash: the fill at the unsynced offsets, elsewhere what a read gives
 abbrev pub filled_from : SideState → ℕ → List ℕ → List ℕ → List ℕ
-filled_from s place [] fill = []
-filled_from s place (byte ∷ seen) fill =
-    let rest : List ℕ → List ℕ = filled_from s (suc place) seen in
-    if is_unsynced s.unsynced place then fill_place fill (slice_get s.old place) rest else byte ∷ rest fill
+filled_from s offset [] fill = []
+filled_from s offset (byte ∷ seen) fill =
+    let rest : List ℕ → List ℕ = filled_from s (suc offset) seen in
+    if is_unsynced s.unsynced offset then fill_offset fill (slice_get s.old offset) rest else byte ∷ rest fill
 
 -- what a crash with this fill leaves of a side
 abbrev pub filled : SideState → List ℕ → List ℕ
@@ -72,8 +72,8 @@ filled s fill = filled_from s 0 s.seen fill
 
 -- how many offsets from one on are unsynced
 abbrev pub unsynced_from : SideState → ℕ → List ℕ → ℕ
-unsynced_from s place [] = 0
-unsynced_from s place (byte ∷ seen) = (if is_unsynced s.unsynced place then 1 else 0) + unsynced_from s (suc place) seen
+unsynced_from s offset [] = 0
+unsynced_from s offset (byte ∷ seen) = (if is_unsynced s.unsynced offset then 1 else 0) + unsynced_from s (suc offset) seen
 
 -- what a crash with this fill leaves of the disk: it fills side A, and what is left of it side B
 abbrev pub left_by : DiskState → List ℕ → Image
@@ -81,10 +81,10 @@ left_by d fill = record { a = filled d.a fill; b = filled d.b (drop (unsynced_fr
 
 -- a side after a write
 abbrev pub wrote_side : ℕ → List ℕ → SideState → SideState
-wrote_side place bytes s = record {
+wrote_side offset bytes s = record {
   old = s.old;
-  seen = overwritten s.seen place bytes;
-  unsynced = record { from = place; to = place + length bytes } ∷ s.unsynced;
+  seen = overwritten s.seen offset bytes;
+  unsynced = record { from = offset; to = offset + length bytes } ∷ s.unsynced;
 }
 
 -- a side of which everything counts as synced
@@ -93,8 +93,8 @@ synced_side s = record { old = s.seen; seen = s.seen; unsynced = [] }
 
 -- the disk after a write
 abbrev pub wrote : Side → ℕ → List ℕ → DiskState → DiskState
-wrote A place bytes d = record { a = wrote_side place bytes d.a; b = d.b; strike = d.strike }
-wrote B place bytes d = record { a = d.a; b = wrote_side place bytes d.b; strike = d.strike }
+wrote A offset bytes d = record { a = wrote_side offset bytes d.a; b = d.b; strike = d.strike }
+wrote B offset bytes d = record { a = d.a; b = wrote_side offset bytes d.b; strike = d.strike }
 
 -- the disk after a sync
 abbrev pub synced : DiskState → DiskState

@@ -5,18 +5,18 @@ use Rattle.cg_disk.specs.declared.disk.Side.{Side}
 
 -- these bytes over the old ones from an offset on, and past their end
 abbrev pub overwritten : List ℕ → ℕ → List ℕ → List ℕ
-overwritten old place bytes = take place old ++ bytes ++ drop (place + length bytes) old
+overwritten old offset bytes = take offset old ++ bytes ++ drop (offset + length bytes) old
 
 -- a write of some bytes at an offset that a crash cuts short: any bytes in its range and past the old end, the same elsewhere
-pub record Torn (place count : ℕ) (old new : List ℕ) : Type 0 where
-  pub before : take place new ≡ take place old
-  pub after : drop (place + count) new ≡ drop (place + count) old
+pub record Torn (offset count : ℕ) (old new : List ℕ) : Type 0 where
+  pub before : take offset new ≡ take offset old
+  pub after : drop (offset + count) new ≡ drop (offset + count) old
   pub no_shorter : length old ≤ length new
-  pub no_longer : length new ≤ max (length old) (place + count)
+  pub no_longer : length new ≤ max (length old) (offset + count)
 
 -- such a write on one side
-pub record TornSide (side : Side) (place count : ℕ) (old new : Image) : Type 0 where
-  pub torn : Torn place count (bytes_of side old) (bytes_of side new)
+pub record TornSide (side : Side) (offset count : ℕ) (old new : Image) : Type 0 where
+  pub torn : Torn offset count (bytes_of side old) (bytes_of side new)
   pub other : bytes_of (opposite side) new ≡ bytes_of (opposite side) old
 
 -- each new outcome of a crash is an old one after a step

@@ -7,15 +7,15 @@ use cg_base::NoMemory;
 use std::alloc::Global;
 
 /// Writes over the bytes from an offset on, and past their end.
-pub fn overwrite(bytes: &mut Vec<u8>, place: usize, new: &[u8]) -> Result<(), NoMemory>
-    requires { place ≤ length bytes.old.items }
-    ensures ok { OnOk result (bytes.new.items ≡ overwritten bytes.old.items place new.now) }
+pub fn overwrite(bytes: &mut Vec<u8>, offset: usize, new: &[u8]) -> Result<(), NoMemory>
+    requires { offset ≤ length bytes.old.items }
+    ensures ok { OnOk result (bytes.new.items ≡ overwritten bytes.old.items offset new.now) }
     ensures err { OnErr result (bytes.new.items ≡ bytes.old.items) }
-    ensures short { OnOk result (place + length new.now < NUMBER_LIMIT) }
+    ensures short { OnOk result (offset + length new.now < NUMBER_LIMIT) }
 {
-    let over = new.len().min(bytes.len() - place);
+    let over = new.len().min(bytes.len() - offset);
     bytes.extend_from_slice(&new[over..])?;
-    bytes[place..place + over].copy_from_slice(&new[..over]);
+    bytes[offset..offset + over].copy_from_slice(&new[..over]);
     Ok(())
 }
 
@@ -23,33 +23,33 @@ pub fn overwrite(bytes: &mut Vec<u8>, place: usize, new: &[u8]) -> Result<(), No
 pub fn written_over(
     alloc: Global,
     bytes: &[u8],
-    place: usize,
+    offset: usize,
     count: usize,
 ) -> Result<Vec<u8>, NoMemory>
-    requires { place ≤ length bytes.now }
-    ensures { IfOk result (λ over. over.items ≡ take (min count (length bytes.now - place)) (drop place bytes.now)) }
+    requires { offset ≤ length bytes.now }
+    ensures { IfOk result (λ over. over.items ≡ take (min count (length bytes.now - offset)) (drop offset bytes.now)) }
 {
-    let over = count.min(bytes.len() - place);
-    Ok(Vec::from_slice(alloc, &bytes[place..place + over])?)
+    let over = count.min(bytes.len() - offset);
+    Ok(Vec::from_slice(alloc, &bytes[offset..offset + over])?)
 }
 
 /// Puts other bytes in place of so many from an offset on, or of those that there are.
 pub fn substitute(
     alloc: Global,
     bytes: &mut Vec<u8>,
-    place: usize,
+    offset: usize,
     count: usize,
     new: &[u8],
 ) -> Result<(), NoMemory>
-    ensures { OnOk result (bytes.new.items ≡ take place bytes.old.items ++ new.now
-        ++ drop (place + count) bytes.old.items) }
+    ensures { OnOk result (bytes.new.items ≡ take offset bytes.old.items ++ new.now
+        ++ drop (offset + count) bytes.old.items) }
 {
-    if new.len() == count && place <= bytes.len() {
-        return overwrite(bytes, place, new);
+    if new.len() == count && offset <= bytes.len() {
+        return overwrite(bytes, offset, new);
     }
-    let end = place.saturating_add(count).min(bytes.len());
+    let end = offset.saturating_add(count).min(bytes.len());
     let behind = Vec::from_slice(alloc, &bytes[end..])?;
-    bytes.truncate(place);
+    bytes.truncate(offset);
     bytes.extend_from_slice(new)?;
     bytes.extend_from_slice(&behind)?;
     Ok(())

@@ -3,7 +3,7 @@ ghost use Rattle.std.specs.Prelude.{◌≡◌, IfOk, reverse};
 ghost use Rattle.cg_disk.specs.State.{filled};
 ghost use Rattle.cg_disk.specs.Undo.{side_after};
 
-use crate::written::{Written, before_writes, highest_end, is_among, lowest_place};
+use crate::written::{Written, before_writes, highest_end, is_among, lowest_offset};
 use cg_base::NoMemory;
 use std::alloc::Global;
 
@@ -17,20 +17,20 @@ pub fn bytes_left(
 ) -> Result<Vec<u8>, NoMemory>
     ensures { IfOk result (λ left. left.items ≡ filled (side_after bytes.items (reverse writes.now)) fill.now) }
 {
-    let from = lowest_place(writes, bytes.len());
+    let from = lowest_offset(writes, bytes.len());
     let to = highest_end(writes, bytes.len());
     let old = before_writes(alloc, &bytes, from, writes)?;
     let mut left = bytes;
     let mut used = 0;
-    for place in from..to {
-        if is_among(writes, place) {
+    for offset in from..to {
+        if is_among(writes, offset) {
             if used < fill.len() {
-                left[place] = fill[used];
+                left[offset] = fill[used];
                 used += 1;
-            } else if place - from < old.len() {
-                left[place] = old[place - from];
+            } else if offset - from < old.len() {
+                left[offset] = old[offset - from];
             } else {
-                left.truncate(place);
+                left.truncate(offset);
                 return Ok(left);
             }
         }

@@ -91,7 +91,7 @@ impl ModelDisk {
             faults,
             ..
         } = self;
-        let used = a.unsynced_places().min(fill.len());
+        let used = a.unsynced_offsets().min(fill.len());
         let a = a.filled(alloc, fill)?;
         let b = b.filled(alloc, &fill[used..])?;
         Ok(ModelDisk {
@@ -168,19 +168,19 @@ impl ModelDisk {
     }
 
     // Writes to a side, without a call.
-    fn put(&mut self, side: Side, place: usize, bytes: &[u8]) -> Result<(), NoMemory>
-        requires { place ≤ length (bytes_of side (view_of self.old).reads) }
-        ensures ok { OnOk result (IsWritten side place bytes.now self.old self.new) }
+    fn put(&mut self, side: Side, offset: usize, bytes: &[u8]) -> Result<(), NoMemory>
+        requires { offset ≤ length (bytes_of side (view_of self.old).reads) }
+        ensures ok { OnOk result (IsWritten side offset bytes.now self.old self.new) }
         ensures err { OnErr result (SameSides self.old self.new) }
-        ensures short { OnOk result (place + length bytes.now < NUMBER_LIMIT) }
+        ensures short { OnOk result (offset + length bytes.now < NUMBER_LIMIT) }
         ensures armed { self.new.armed ≡ self.old.armed }
         ensures calls { self.new.calls ≡ self.old.calls }
         ensures faults { self.new.faults ≡ self.old.faults }
     {
         self.past.reserve(1)?;
         match side {
-            Side::A => self.a.write(self.alloc, place, bytes),
-            Side::B => self.b.write(self.alloc, place, bytes),
+            Side::A => self.a.write(self.alloc, offset, bytes),
+            Side::B => self.b.write(self.alloc, offset, bytes),
         }
     }
 

@@ -5,7 +5,7 @@ ghost use Rattle.cg_disk.specs.Undo.{undone};
 
 use crate::bytes::{overwrite, written_over};
 use crate::crash::bytes_left;
-use crate::written::{Written, highest_end, is_among, lowest_place};
+use crate::written::{Written, highest_end, is_among, lowest_offset};
 use cg_base::NoMemory;
 use std::alloc::Global;
 
@@ -34,18 +34,18 @@ impl ModelSide {
     }
 
     /// Writes, and keeps what was written over.
-    pub fn write(&mut self, alloc: Global, place: usize, bytes: &[u8]) -> Result<(), NoMemory>
-        requires { place ≤ length self.old.bytes.items }
-        ensures ok { OnOk result (side_of self.new ≡ wrote_side place bytes.now (side_of self.old)) }
+    pub fn write(&mut self, alloc: Global, offset: usize, bytes: &[u8]) -> Result<(), NoMemory>
+        requires { offset ≤ length self.old.bytes.items }
+        ensures ok { OnOk result (side_of self.new ≡ wrote_side offset bytes.now (side_of self.old)) }
         ensures bytes { OnErr result (self.new.bytes.items ≡ self.old.bytes.items) }
         ensures unsynced { OnErr result (self.new.unsynced.items ≡ self.old.unsynced.items) }
-        ensures short { OnOk result (place + length bytes.now < NUMBER_LIMIT) }
+        ensures short { OnOk result (offset + length bytes.now < NUMBER_LIMIT) }
     {
-        let before = written_over(alloc, &self.bytes, place, bytes.len())?;
+        let before = written_over(alloc, &self.bytes, offset, bytes.len())?;
         self.unsynced.reserve(1)?;
-        overwrite(&mut self.bytes, place, bytes)?;
+        overwrite(&mut self.bytes, offset, bytes)?;
         let written = Written {
-            place,
+            offset,
             count: bytes.len(),
             before,
         };
@@ -56,14 +56,14 @@ impl ModelSide {
     }
 
     /// How many offsets were written since the last sync.
-    pub fn unsynced_places(&self) -> usize
+    pub fn unsynced_offsets(&self) -> usize
         ensures { result ≡ unsynced_from (side_of self.now) 0 self.now.bytes.items }
     {
-        let from = lowest_place(&self.unsynced, self.bytes.len());
+        let from = lowest_offset(&self.unsynced, self.bytes.len());
         let to = highest_end(&self.unsynced, self.bytes.len());
         let mut count = 0;
-        for place in from..to {
-            if is_among(&self.unsynced, place) {
+        for offset in from..to {
+            if is_among(&self.unsynced, offset) {
                 count += 1;
             }
         }

@@ -10,7 +10,7 @@ use std::alloc::Global;
 /// A write since the last sync, with the bytes that it wrote over.
 #[derive(Drop)]
 pub struct Written {
-    pub place: usize,
+    pub offset: usize,
     pub count: usize,
     pub before: Vec<u8>,
 }
@@ -23,7 +23,7 @@ pub fn before_writes(
     writes: &[Written],
 ) -> Result<Vec<u8>, NoMemory>
     requires inside { from ≤ length bytes.now }
-    requires above { All (λ w. from ≤ w.place) writes.now }
+    requires above { All (λ w. from ≤ w.offset) writes.now }
     ensures { IfOk result (λ old. take from bytes.now ++ old.items ≡ undone bytes.now (reverse writes.now)) }
 {
     let mut old = Vec::from_slice(alloc, &bytes[from..])?;
@@ -31,17 +31,17 @@ pub fn before_writes(
     while left > 0 {
         left -= 1;
         let w = &writes[left];
-        substitute(alloc, &mut old, w.place - from, w.count, &w.before)?;
+        substitute(alloc, &mut old, w.offset - from, w.count, &w.before)?;
     }
     Ok(old)
 }
 
 /// Whether one of these writes has written at this offset.
-pub fn is_among(writes: &[Written], place: usize) -> bool
-    ensures { result ≡ is_unsynced (ranges writes.now) place }
+pub fn is_among(writes: &[Written], offset: usize) -> bool
+    ensures { result ≡ is_unsynced (ranges writes.now) offset }
 {
     for w in writes {
-        if w.place <= place && place - w.place < w.count {
+        if w.offset <= offset && offset - w.offset < w.count {
             return true;
         }
     }
@@ -49,13 +49,13 @@ pub fn is_among(writes: &[Written], place: usize) -> bool
 }
 
 /// The lowest offset at which one of these writes begins, or the limit where that is lower.
-pub fn lowest_place(writes: &[Written], limit: usize) -> usize
+pub fn lowest_offset(writes: &[Written], limit: usize) -> usize
     ensures within { result ≤ limit }
-    ensures above { All (λ w. result ≤ w.place) writes.now }
+    ensures above { All (λ w. result ≤ w.offset) writes.now }
 {
     let mut lowest = limit;
     for w in writes {
-        lowest = lowest.min(w.place);
+        lowest = lowest.min(w.offset);
     }
     lowest
 }
@@ -67,7 +67,7 @@ pub fn highest_end(writes: &[Written], limit: usize) -> usize
 {
     let mut highest = 0;
     for w in writes {
-        highest = highest.max(w.place.saturating_add(w.count));
+        highest = highest.max(w.offset.saturating_add(w.count));
     }
     highest.min(limit)
 }

@@ -20,7 +20,7 @@ use Rattle.cg_journal.specs.Adds.{state_on, IsEither, GateDecides, gate_stands, 
 use Rattle.cg_journal.proofs.Reading.{reads_as}
 use Rattle.cg_journal.proofs.Adding.{same_front, gate_of_same, take_staged, torn_open, torn_shut, gate_written, length-framed, end_within}
 use Rattle.cg_journal.proofs.Both.{put_this, put_other, records_same, records_added}
-use Rattle.cg_journal.proofs.Fills.{left_clean, filled_gate, first_or, gate_range, is_gate, no_places}
+use Rattle.cg_journal.proofs.Fills.{left_clean, filled_gate, first_or, gate_range, is_gate, no_offsets}
 use Rattle.cg_journal.specs.ViewLaws.{some_state, unstruck_more}
 
 gate_early : (blow : Blow) (call : ℕ) (fill : List ℕ) → call ≤ 2 → gate_stands blow call fill ≡ false
@@ -39,9 +39,9 @@ struck_more old mid new first later second = record {
 }
 
 -- what a told disk shows after a write
-shown_wrote : (side : Side) (place : ℕ) (bytes : List ℕ) (s : DiskState) → shown (wrote side place bytes s) ≡ put_on side place bytes (shown s)
-shown_wrote A place bytes s = refl
-shown_wrote B place bytes s = refl
+shown_wrote : (side : Side) (offset : ℕ) (bytes : List ℕ) (s : DiskState) → shown (wrote side offset bytes s) ≡ put_on side offset bytes (shown s)
+shown_wrote A offset bytes s = refl
+shown_wrote B offset bytes s = refl
 
 clean_unsynced : (s : SideState) → s ≡ synced_side s → s.unsynced ≡ []
 clean_unsynced s clean = ap (λ (x : SideState). x.unsynced) clean
@@ -68,7 +68,7 @@ stop_gate : (side : Side) (gate : ℕ) (s e : DiskState) (fill : List ℕ) → I
     → get_or (bytes_of side (left_by e fill)) gate 0 ≡ first_or fill (get_or (bytes_of side (shown s)) gate 0)
 stop_gate A gate s e fill clean a b inside = stop_byte s.a e.a gate fill clean.0 a inside
 stop_gate B gate s e fill clean a b inside =
-    let none : unsynced_from e.a 0 e.a.seen ≡ 0 = no_places e.a (ap (λ (x : SideState). x.unsynced) a ∙ clean_unsynced s.a clean.0) in
+    let none : unsynced_from e.a 0 e.a.seen ≡ 0 = no_offsets e.a (ap (λ (x : SideState). x.unsynced) a ∙ clean_unsynced s.a clean.0) in
     ap (λ n. get_or (filled e.b (drop n fill)) gate 0) none ∙ stop_byte s.b e.b gate fill clean.1 b inside
 
 -- which offsets a strike in a gate's write or its sync leaves unsynced
@@ -269,10 +269,10 @@ module _ (side : Side) (end : ℕ) (bodies : List (List ℕ)) (body : List ℕ) 
           told : (blow : Blow) → CutBy blow s (wrote side (end - 1) (1 ∷ []) s) call e → ((state_on side e).unsynced ≡ []) ⊎ ((state_on side e).unsynced ≡ gate_range (end - 1))
           told blow by = (cut_unsynced side (end - 1) call blow s e clean cut.first_or_second by).0
 
-          told_gate : (blow : Blow) → CutBy blow s (wrote side (end - 1) (1 ∷ []) s) call e → (place : ℕ) → is_unsynced (state_on side e).unsynced place ≡ true → place ≡ end - 1
-          told_gate blow by place hit = ⊎_elim
-              (λ none. absurd (let miss : is_unsynced (state_on side e).unsynced place ≡ false = ap (λ r. is_unsynced r place) none in cc))
-              (λ one. is_gate (end - 1) place (sym (ap (λ r. is_unsynced r place) one) ∙ hit))
+          told_gate : (blow : Blow) → CutBy blow s (wrote side (end - 1) (1 ∷ []) s) call e → (offset : ℕ) → is_unsynced (state_on side e).unsynced offset ≡ true → offset ≡ end - 1
+          told_gate blow by offset hit = ⊎_elim
+              (λ none. absurd (let miss : is_unsynced (state_on side e).unsynced offset ≡ false = ap (λ r. is_unsynced r offset) none in cc))
+              (λ one. is_gate (end - 1) offset (sym (ap (λ r. is_unsynced r offset) one) ∙ hit))
               (told blow by)
 
         second_lost : (call : ℕ) → IsCut side (end - 1) (1 ∷ []) call mid new → IsLostIn 0 (2 + call) side (end - 1) (records old.reads) (option_map (added side body) (records old.reads)) old new

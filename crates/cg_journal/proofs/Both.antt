@@ -8,13 +8,13 @@ use Rattle.cg_disk.specs.declared.disk.Side.TheVariants.{A, B}
 use Rattle.cg_journal.specs.Records.{records, both, bodies_of, added, emptied}
 use Rattle.cg_journal.specs.Put.{put_on}
 
-pub put_this : (side : Side) (place : ℕ) (bytes : List ℕ) (image : Image) → bytes_of side (put_on side place bytes image) ≡ overwritten (bytes_of side image) place bytes
-put_this A place bytes image = refl
-put_this B place bytes image = refl
+pub put_this : (side : Side) (offset : ℕ) (bytes : List ℕ) (image : Image) → bytes_of side (put_on side offset bytes image) ≡ overwritten (bytes_of side image) offset bytes
+put_this A offset bytes image = refl
+put_this B offset bytes image = refl
 
-pub put_other : (side : Side) (place : ℕ) (bytes : List ℕ) (image : Image) → bytes_of (opposite side) (put_on side place bytes image) ≡ bytes_of (opposite side) image
-put_other A place bytes image = refl
-put_other B place bytes image = refl
+pub put_other : (side : Side) (offset : ℕ) (bytes : List ℕ) (image : Image) → bytes_of (opposite side) (put_on side offset bytes image) ≡ bytes_of (opposite side) image
+put_other A offset bytes image = refl
+put_other B offset bytes image = refl
 
 pub records_same : (side : Side) (c old : Image) → bytes_of (opposite side) c ≡ bytes_of (opposite side) old → bodies_of (bytes_of side c) ≡ bodies_of (bytes_of side old) → records c ≡ records old
 records_same A c old other this = λ i. both (this i) (bodies_of (other i))

@@ -31,11 +31,11 @@ chained old mid new P Q first second weaker = record {
 }
 
 -- nothing torn
-pub torn_same : (place count : ℕ) (bytes : List ℕ) → Torn place count bytes bytes
-torn_same place count bytes = record { before = refl; after = refl; no_shorter = omega arith; no_longer = omega arith }
+pub torn_same : (offset count : ℕ) (bytes : List ℕ) → Torn offset count bytes bytes
+torn_same offset count bytes = record { before = refl; after = refl; no_shorter = omega arith; no_longer = omega arith }
 
-pub torn_side_same : (side : Side) (place count : ℕ) (image : Image) → TornSide side place count image image
-torn_side_same side place count image = record { torn = torn_same place count (bytes_of side image); other = refl }
+pub torn_side_same : (side : Side) (offset count : ℕ) (image : Image) → TornSide side offset count image image
+torn_side_same side offset count image = record { torn = torn_same offset count (bytes_of side image); other = refl }
 
 -- a strike that is hit is armed at that call
 pub armed_at : (armed : Option DiskStrike) (n : ℕ) (blow : Blow) → blow_at armed n ≡ Some blow → (strike : DiskStrike) × (armed ≡ Some strike) × (strike.call ≡ n) × (strike.blow ≡ blow)

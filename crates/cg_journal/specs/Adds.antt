@@ -43,7 +43,7 @@ pub record IsCutShort (side : Side) (gate call : ℕ) (before after : Option Rec
   pub strike : DiskStrike
   pub armed : s.strike ≡ Some strike
   pub fills : (fill : List ℕ) → records (left_by e fill) ≡ (if gate_stands strike.blow call fill then after else before)
-  pub only_gate : 2 < call → (place : ℕ) → is_unsynced (state_on side e).unsynced place ≡ true → place ≡ gate
+  pub only_gate : 2 < call → (offset : ℕ) → is_unsynced (state_on side e).unsynced offset ≡ true → offset ≡ gate
   pub other_synced : 2 < call → (state_on (opposite side) e).unsynced ≡ []
 
 -- behind so many earlier calls one of the four was struck

@@ -13,15 +13,15 @@ use Rattle.cg_journal.specs.Strikes.{IsUnstruck, IsStruck}
 
 -- the bytes of both sides after a write on one
 abbrev pub put_on : Side → ℕ → List ℕ → Image → Image
-put_on side place bytes image = with_bytes side (overwritten (bytes_of side image) place bytes) image
+put_on side offset bytes image = with_bytes side (overwritten (bytes_of side image) offset bytes) image
 
 -- the bytes are written and synced
-pub record IsPut (side : Side) (place : ℕ) (bytes : List ℕ) (old new : DiskView) : Type 0 where
-  pub reads : new.reads ≡ put_on side place bytes old.reads
+pub record IsPut (side : Side) (offset : ℕ) (bytes : List ℕ) (old new : DiskView) : Type 0 where
+  pub reads : new.reads ≡ put_on side offset bytes old.reads
   pub rest : IsAtRest new
   pub time : new.time ≡ old.time + 2
   pub unstruck : IsUnstruck old new
-  pub short : place + length bytes < NUMBER_LIMIT
+  pub short : offset + length bytes < NUMBER_LIMIT
 
 -- what a strike in the first or the second of the two calls leaves of the sides that a disk tells
 abbrev pub CutBy : Blow → DiskState → DiskState → ℕ → DiskState → Type 0
@@ -29,21 +29,21 @@ CutBy Stops s w calls e = (e.a ≡ w.a) × (e.b ≡ w.b)
 CutBy Fails s w calls e = (calls ≡ 1 → (e.a ≡ s.a) × (e.b ≡ s.b))
     × (calls ≡ 2 → (e.a ≡ synced_side w.a) × (e.b ≡ synced_side w.b))
 
-pub record IsCutState (side : Side) (place : ℕ) (bytes : List ℕ) (calls : ℕ) (s e : DiskState) : Type 0 where
+pub record IsCutState (side : Side) (offset : ℕ) (bytes : List ℕ) (calls : ℕ) (s e : DiskState) : Type 0 where
   pub strike : DiskStrike
   pub armed : s.strike ≡ Some strike
-  pub left : CutBy strike.blow s (wrote side place bytes s) calls e
+  pub left : CutBy strike.blow s (wrote side offset bytes s) calls e
 
 -- the write or its sync is struck
-pub record IsCut (side : Side) (place : ℕ) (bytes : List ℕ) (calls : ℕ) (old new : DiskView) : Type 0 where
+pub record IsCut (side : Side) (offset : ℕ) (bytes : List ℕ) (calls : ℕ) (old new : DiskView) : Type 0 where
   pub struck : IsStruck old new
   pub time : new.time ≡ old.time + calls
   pub first_or_second : (calls ≡ 1) ⊎ (calls ≡ 2)
-  pub images : (c : Image) → new.may_leave c → TornSide side place (length bytes) old.reads c
-  pub reads : calls ≡ 2 → new.reads ≡ put_on side place bytes old.reads
+  pub images : (c : Image) → new.may_leave c → TornSide side offset (length bytes) old.reads c
+  pub reads : calls ≡ 2 → new.reads ≡ put_on side offset bytes old.reads
   pub has : HasImages new
   pub told : (s : DiskState) → old.state ≡ Some s → (e : DiskState) × (new.state ≡ Some e)
-      × IsCutState side place bytes calls s e
+      × IsCutState side offset bytes calls s e
 
 -- nothing was written, since memory was refused
 pub record IsKept (old new : DiskView) : Type 0 where
@@ -53,6 +53,6 @@ pub record IsKept (old new : DiskView) : Type 0 where
   pub unstruck : IsUnstruck old new
 
 abbrev pub Puts : {T : Type 0} → Side → ℕ → List ℕ → DiskView → DiskView → Result T DiskFault → Type 0
-Puts side place bytes old new (Ok _) = IsPut side place bytes old new
-Puts side place bytes old new (Err Failed) = (calls : ℕ) × IsCut side place bytes calls old new
-Puts side place bytes old new (Err NoMemory) = IsKept old new
+Puts side offset bytes old new (Ok _) = IsPut side offset bytes old new
+Puts side offset bytes old new (Err Failed) = (calls : ℕ) × IsCut side offset bytes calls old new
+Puts side offset bytes old new (Err NoMemory) = IsKept old new

@@ -9,15 +9,15 @@ ghost use Rattle.cg_journal.specs.Put.{Puts};
 use cg_disk::{Disk, DiskFault, Side};
 
 /// Writes and syncs, two device calls.
-pub fn put<D: Disk>(disk: &mut D, side: Side, place: u64, bytes: &[u8]) -> Result<(), DiskFault>
+pub fn put<D: Disk>(disk: &mut D, side: Side, offset: u64, bytes: &[u8]) -> Result<(), DiskFault>
     requires calls { (D.view disk.old).time + 2 ≤ COUNT_LIMIT }
-    requires inside { place ≤ length (bytes_of side (D.view disk.old).reads) }
+    requires inside { offset ≤ length (bytes_of side (D.view disk.old).reads) }
     requires rest { IsAtRest (D.view disk.old) }
-    ensures puts { Puts side place bytes.now (D.view disk.old) (D.view disk.new) result }
+    ensures puts { Puts side offset bytes.now (D.view disk.old) (D.view disk.new) result }
     ensures moments { LeavesOnly (D.view disk.old) (D.view disk.new) (TornSide side
-        place (length bytes.now) (D.view disk.old).reads) }
+        offset (length bytes.now) (D.view disk.old).reads) }
 {
-    match disk.write_at(side, place, bytes) {
+    match disk.write_at(side, offset, bytes) {
         Ok(()) => disk.sync(),
         Err(fault) => Err(fault),
     }

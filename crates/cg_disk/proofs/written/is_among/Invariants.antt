@@ -4,4 +4,4 @@ use Rattle.cg_disk.specs.Undo.{ranges}
 use Rattle.cg_disk.proofs.written.is_among.Given as goal
 
 abbrev pub invariant-loop-w : goal.invariant-loop-w
-invariant-loop-w l = is_unsynced (ranges (drop l.w-index l.writes)) l.place ≡ is_unsynced (ranges l.writes) l.place
+invariant-loop-w l = is_unsynced (ranges (drop l.w-index l.writes)) l.offset ≡ is_unsynced (ranges l.writes) l.offset

@@ -1,7 +1,0 @@
-use Rattle.std.proofs.Common.{◌≡◌, ◌≤◌, ◌+◌, drop}
-use Rattle.cg_disk.specs.State.{unsynced_from}
-use Rattle.cg_disk.specs.Model.{side_of}
-use Rattle.cg_disk.proofs.model_side.ModelSide.unsynced_places.Given as goal
-
-abbrev pub invariant-loop-place : goal.invariant-loop-place
-invariant-loop-place l = (l.count + unsynced_from (side_of l.self) l.place (drop l.place l.self.bytes.items) ≡ unsynced_from (side_of l.self) 0 l.self.bytes.items) × (l.count ≤ l.place)
