@@ -50,7 +50,7 @@ impl EncodedMsg {
     }
 
     // What it says is within the limits of a message.
-    pub(crate) fn known(&self)
+    pub(crate) fn holds(&self)
         ensures { IsMsg self.now }
     {
         let _bytes = &self.bytes;

@@ -13,7 +13,7 @@ fn opened(one: Delivery<EncodedMsg>) -> Delivery
 {
     match one {
         Delivery::Message { place, from, bytes } => {
-            bytes.known();
+            bytes.holds();
             Delivery::Message {
                 place,
                 from,

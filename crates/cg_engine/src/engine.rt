@@ -205,6 +205,7 @@ impl<D: Disk> Engine<D> {
         ensures { (u : OnDisk) → Stands store.id (D.view store.disk).reads u →
             (let t = turn_of replica draft in EndsEvent D.view store last.count u t (commits u.content t) result) }
     {
+        store.holds();
         let id = store.id();
         match store.commit(replica.core(), draft) {
             Ok((store, outputs)) => Engine::go_on(store, replica, outputs, last),
@@ -223,8 +224,7 @@ impl<D: Disk> Engine<D> {
         ensures { (w : OnDisk) → Stands store.id (D.view store.disk).reads w →
             GoesOn D.view store w replica outputs last result }
     {
-        // its clause says that the disk stands for a state
-        let _id = store.id();
+        store.holds();
         if !outputs.written() {
             drop(last);
             return Engine::run(store, replica, outputs);
@@ -242,6 +242,7 @@ impl<D: Disk> Engine<D> {
         ensures { (w : OnDisk) → Stands store.id (D.view store.disk).reads w →
             Saves D.view store w replica outputs last result }
     {
+        store.holds();
         let id = store.id();
         if !store.is_long() {
             drop(last);
@@ -367,14 +368,18 @@ impl<D: Disk> Engine<D> {
 
     /// Whose engine it is. It takes no memory.
     pub fn id(&self) -> ReplicaId
-        ensures value { result ≡ self.now.store.id }
+        ensures { result ≡ self.now.store.id }
+    {
+        self.store.id()
+    }
 
-        // The disk stands for a state that the replica follows, and nothing on it is unsynced.
+    /// The disk stands for a state that the replica follows, and nothing on it is unsynced. It does nothing.
+    pub fn holds(&self)
         ensures follows { IsEngine (D.view self.now.store.disk) self.now.store.id
             self.now.store.unwritten self.now.replica.held }
         ensures rest { IsAtRest (D.view self.now.store.disk) }
     {
-        self.store.id()
+        self.store.holds();
     }
 }
 

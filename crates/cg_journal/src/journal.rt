@@ -112,9 +112,7 @@ impl<D: Disk> Journal<D> {
             D.view (IsEither (records (D.view self).reads) (with_record side body.now (D.view self))) (D.view self)
             result }
         ensures ends { Appends D.view side body.now (D.view self) result }
-        ensures readable { CanBeRead (D.view self) }
     {
-        self.readable();
         match framed(alloc, body) {
             Ok(bytes) => self.append_framed(side, &bytes),
             Err(_) => Err(AppendErr::NoMemory(self)),
@@ -129,9 +127,7 @@ impl<D: Disk> Journal<D> {
         // At each moment every image has the records before on that side, or none, or the new one alone.
         ensures moments { EachMoment D.view (IsRestarting side body.now (D.view self)) (D.view self) result }
         ensures ends { Restarts D.view side body.now (D.view self) result }
-        ensures readable { CanBeRead (D.view self) }
     {
-        self.readable();
         let bytes = match framed(alloc, body) {
             Ok(bytes) => bytes,
             Err(_) => return Err(AppendErr::NoMemory(self)),
@@ -142,8 +138,8 @@ impl<D: Disk> Journal<D> {
         }
     }
 
-    // The records of both sides can be read.
-    fn readable(&self)
+    /// The records of both sides can be read. It does nothing.
+    pub fn holds(&self)
         ensures { CanBeRead (D.view self.now) }
     {
         let _ends = &self.ends;
@@ -192,28 +188,22 @@ impl<D: Disk> Journal<D> {
 
     /// Where the records of a side end: the offset just past the gate behind the last one. It takes no memory.
     pub fn length(&self, side: Side) -> u64
-        ensures end { (r : Records) → records (D.view self.now).reads ≡ Some r → result ≡ end_of (on_side side r) }
-        ensures readable { CanBeRead (D.view self.now) }
+        ensures { (r : Records) → records (D.view self.now).reads ≡ Some r → result ≡ end_of (on_side side r) }
     {
-        self.readable();
         self.ends.on(side)
     }
 
     /// The disk's `begin`.
     pub fn begin(&mut self)
-        ensures begins { Begins (D.view self.old) (D.view self.new) }
-        ensures readable { CanBeRead (D.view self.old) }
+        ensures { Begins (D.view self.old) (D.view self.new) }
     {
-        self.readable();
         self.disk.begin();
     }
 
     /// Its disk. It takes no memory.
     pub fn into_disk(self) -> D
-        ensures disk { result ≡ self }
-        ensures readable { CanBeRead (D.view self) }
+        ensures { result ≡ self }
     {
-        self.readable();
         let Journal { disk, ends: _ } = self;
         disk
     }
@@ -223,34 +213,27 @@ impl<D: Disk> Journal<D> {
 impl Journal<ModelDisk> {
     ghost use Rattle.cg_disk.specs.State.{Fails, Stops};
     ghost use Rattle.cg_disk.specs.Crashes.{Arms};
-    ghost use Rattle.cg_journal.specs.Answers.{CanBeRead};
 
     /// Arms the nth next device call, n at least 1, to fail once.
     pub fn fail_at(&mut self, n: u64)
         requires { 1 ≤ n }
-        ensures arms { Arms Fails n (⟦<ModelDisk as Disk>⟧.view self.old) (⟦<ModelDisk as Disk>⟧.view self.new) }
-        ensures readable { CanBeRead (⟦<ModelDisk as Disk>⟧.view self.old) }
+        ensures { Arms Fails n (⟦<ModelDisk as Disk>⟧.view self.old) (⟦<ModelDisk as Disk>⟧.view self.new) }
     {
-        self.readable();
         self.disk.fail_at(n);
     }
 
     /// Arms a stop inside the nth next device call, n at least 1.
     pub fn stop_at(&mut self, n: u64)
         requires { 1 ≤ n }
-        ensures arms { Arms Stops n (⟦<ModelDisk as Disk>⟧.view self.old) (⟦<ModelDisk as Disk>⟧.view self.new) }
-        ensures readable { CanBeRead (⟦<ModelDisk as Disk>⟧.view self.old) }
+        ensures { Arms Stops n (⟦<ModelDisk as Disk>⟧.view self.old) (⟦<ModelDisk as Disk>⟧.view self.new) }
     {
-        self.readable();
         self.disk.stop_at(n);
     }
 
     /// The device calls made so far.
     pub fn calls(&self) -> u64
-        ensures calls { result ≡ (⟦<ModelDisk as Disk>⟧.view self.now).time }
-        ensures readable { CanBeRead (⟦<ModelDisk as Disk>⟧.view self.now) }
+        ensures { result ≡ (⟦<ModelDisk as Disk>⟧.view self.now).time }
     {
-        self.readable();
         self.disk.calls()
     }
 }

@@ -455,13 +455,17 @@ impl<D: Disk> Store<D> {
 
     /// Whose store it is. It takes no memory.
     pub fn id(&self) -> ReplicaId
-        ensures value { result ≡ self.now.id }
+        ensures { result ≡ self.now.id }
+    {
+        self.id
+    }
 
-        // The disk stands for a state of this replica, and nothing on it is unsynced.
+    /// The disk stands for a state of this replica, and nothing on it is unsynced. It does nothing.
+    pub fn holds(&self)
         ensures stands { (u : OnDisk) × Stands self.now.id (D.view self.now.disk).reads u }
         ensures rest { IsAtRest (D.view self.now.disk) }
     {
-        self.id
+        let _journal = &self.journal;
     }
 
     /// Its disk. It takes no memory.

@@ -152,7 +152,7 @@ impl World {
 
     /// Admitted events lead here from before the start: so each law of `cg_agree` over such worlds holds of this one. It does
     /// nothing.
-    pub fn led(&self)
+    pub fn holds(&self)
         ensures { IsLed self.now.world }
     {
         let _state = &self.state;

@@ -141,8 +141,7 @@ fn core_of(engine: &Engine<ModelDisk>) -> &Core
     ensures value { result.now ≡ engine.now.replica.held }
     ensures holds { Holds result.now }
 {
-    // its clause says that the replica follows its disk, so that what it holds agrees
-    let _id = engine.id();
+    engine.holds();
     engine.core()
 }
 

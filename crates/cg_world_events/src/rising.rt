@@ -115,8 +115,7 @@ fn stop(engine: Engine<ModelDisk>) -> Result<Node, NoMemory>
         drop(engine);
         return Err(NoMemory);
     }
-    // its clauses say that the disk stands for a state, with nothing unsynced
-    let _id = engine.id();
+    engine.holds();
     Node::fall(engine.stop(), &[])
 }
 

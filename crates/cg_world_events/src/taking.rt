@@ -135,8 +135,7 @@ fn handle(
     events_end_as_defined();
     what_is_held_agrees();
     each_event_keeps_what_holds();
-    // its clause says that the disk stands for a state that the replica follows
-    let _id = engine.id();
+    engine.holds();
     match engine.handle(input) {
         Handled::Running { engine, outputs } => Ok(go_on(engine, fill, outputs)),
         Handled::Down(wreck) => fall(wreck, fill),

@@ -4,4 +4,4 @@ use Rattle.cg_disk_records.specs.Holds.{Holds}
 use Rattle.cg_world_events.proofs.looks.core_of.Goals as goal
 
 pub returns-clause-holds : goal.returns-clause-holds
-returns-clause-holds c = subst (λ (h : Held). Holds h) (sym c.core.ensures) c.id-id.ensures.follows.follows.held
+returns-clause-holds c = subst (λ (h : Held). Holds h) (sym c.core.ensures) c.holds.ensures.follows.follows.held

@@ -10,15 +10,15 @@ use Rattle.cg_world_events.proofs.rising.stop.Goals as goal
 pub fall-requires-clause-falls : goal.fall-requires-clause-falls
 fall-requires-clause-falls c =
     let e = c.args.engine in
-    let follows = c.id-id.ensures.follows in
-    (follows.standing, falls_to view_of e c.stop.result c.stop.ensures (is_view_of e.store.disk) c.id-id.ensures.rest (state_of e.store.disk) refl follows.standing follows.stands)
+    let follows = c.holds.ensures.follows in
+    (follows.standing, falls_to view_of e c.stop.result c.stop.ensures (is_view_of e.store.disk) c.holds.ensures.rest (state_of e.store.disk) refl follows.standing follows.stands)
 
 pub returns : goal.returns
 returns c =
     let e = c.args.engine in
     let w = c.stop.result in
-    let follows = c.id-id.ensures.follows in
+    let follows = c.holds.ensures.follows in
     let u = follows.standing in
-    let falls = falls_to view_of e w c.stop.ensures (is_view_of e.store.disk) c.id-id.ensures.rest (state_of e.store.disk) refl u follows.stands in
+    let falls = falls_to view_of e w c.stop.ensures (is_view_of e.store.disk) c.holds.ensures.rest (state_of e.store.disk) refl u follows.stands in
     if_ok_then c.fall.result (λ s. (u : OnDisk) → FallsTo view_of w [] u → s ≡ fallen w u) (λ s. (fill : List ℕ) → s ≡ crashed e.store.id (up_seen view_of e fill).life)
-    (λ s is fill. is u falls ∙ falls_seen view_of e w c.stop.ensures (is_view_of e.store.disk) c.id-id.ensures.rest (state_of e.store.disk) refl u follows.stands fill) c.fall.ensures
+    (λ s is fill. is u falls ∙ falls_seen view_of e w c.stop.ensures (is_view_of e.store.disk) c.holds.ensures.rest (state_of e.store.disk) refl u follows.stands fill) c.fall.ensures

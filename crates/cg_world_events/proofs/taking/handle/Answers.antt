@@ -11,7 +11,7 @@ fall-requires-clause-falls c =
     let old = c.args.engine in
     let kept = c.each_event_keeps_what_holds.ensures in
     let laws = c.what_is_held_agrees.ensures in
-    let is = c.id-id.ensures.follows in
+    let is = c.holds.ensures.follows in
     let fell = falls_down view_of c.events_end_as_defined.ensures kept laws.counts old c.args.fill (input_of c.args.input) c.requires.booked.0 (state_of old.store.disk) refl is c.requires.booked.1
     c.in-Down.wreck (c.in-Down.ensures is.standing is.stands) in
     (fell.0, fell.1)
@@ -19,7 +19,7 @@ fall-requires-clause-falls c =
 pub fall-requires-clause-room : goal.fall-requires-clause-room
 fall-requires-clause-room c =
     let old = c.args.engine in
-    let is = c.id-id.ensures.follows in
+    let is = c.holds.ensures.follows in
     let t = replica_step old.replica (input_of c.args.input) in
     let within = fallen_within view_of old is.standing t c.in-Down.wreck (c.in-Down.ensures is.standing is.stands) in
     omega (arith, within, c.requires.calls)
@@ -29,7 +29,7 @@ returns-in-Running c =
     let old = c.args.engine in
     let kept = c.each_event_keeps_what_holds.ensures in
     let laws = c.what_is_held_agrees.ensures in
-    let is = c.id-id.ensures.follows in
+    let is = c.holds.ensures.follows in
     c.go_on.ensures
     ∙ goes_on view_of c.events_end_as_defined.ensures kept laws.counts old c.args.fill (input_of c.args.input) c.requires.booked.0 (state_of old.store.disk) refl is c.requires.booked.1
     c.in-Running.engine c.in-Running.outputs (c.in-Running.ensures is.standing is.stands)
@@ -39,7 +39,7 @@ returns-in-Down c =
     let old = c.args.engine in
     let kept = c.each_event_keeps_what_holds.ensures in
     let laws = c.what_is_held_agrees.ensures in
-    let is = c.id-id.ensures.follows in
+    let is = c.holds.ensures.follows in
     let fell = falls_down view_of c.events_end_as_defined.ensures kept laws.counts old c.args.fill (input_of c.args.input) c.requires.booked.0 (state_of old.store.disk) refl is c.requires.booked.1
     c.in-Down.wreck (c.in-Down.ensures is.standing is.stands) in
     fallen_so view_of c.in-Down.wreck c.args.fill fell.0 fell.1 c.fall.result _ fell.2 c.fall.ensures

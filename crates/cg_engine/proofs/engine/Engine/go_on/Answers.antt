@@ -4,7 +4,7 @@ use Rattle.cg_engine.proofs.engine.Engine.go_on.Goals as goal
 
 pub whiten-requires : goal.whiten-requires
 whiten-requires g c =
-    line_here g.D.Disk.view c.args.store c.args.replica c.args.outputs.written c.requires.may (sym c.written.ensures ∙ c.if-not-written.false) c.id-id.ensures.stands
+    line_here g.D.Disk.view c.args.store c.args.replica c.args.outputs.written c.requires.may (sym c.written.ensures ∙ c.if-not-written.false) c.holds.ensures.stands
 
 pub save-requires-clause-may : goal.save-requires-clause-may
 save-requires-clause-may g c =

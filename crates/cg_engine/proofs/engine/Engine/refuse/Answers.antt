@@ -12,5 +12,5 @@ returns g c = λ u t written stands.
     let store = c.args.store in
     let last : LastEvent = record { count = c.args.count; green = [] } in
     subst (λ (w : Fallen _). EndsEvent view store c.args.count u t written (NoMemory w))
-    (refused_as store.disk c.into_disk.result c.id-id.result store.id c.args.count c.new-green.result c.of.result c.of.ensures c.into_disk.ensures.disk c.id-id.ensures.value c.new-green.ensures)
+    (refused_as store.disk c.into_disk.result c.id-id.result store.id c.args.count c.new-green.result c.of.result c.of.ensures c.into_disk.ensures.disk c.id-id.ensures c.new-green.ensures)
     (refuses view store u (g.met.D.Disk.is_view store.disk) c.into_disk.ensures.rest stands t written last)

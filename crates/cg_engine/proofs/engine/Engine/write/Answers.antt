@@ -13,7 +13,7 @@ go_on-requires-clause-may g c =
     let store = c.args.store in
     let r = c.args.replica in
     let d = c.args.draft in
-    let here = c.id-id.ensures.stands in
+    let here = c.holds.ensures.stands in
     may_go_on view store here.0 r d c.args.last c.requires.named (c.requires.may here.0 here.1) here.1 c.in-Ok.store c.in-Ok.outputs (commits here.0.content (turn_of r d)) refl
     (ended_at view store here.0 r d c.core.result.now c.core.ensures (Ok (c.in-Ok.store, c.in-Ok.outputs)) (c.in-Ok.ensures.ends here.0 r.state here.1))
 
@@ -23,7 +23,7 @@ returns-in-Ok g c = λ u stands.
     let store = c.args.store in
     let r = c.args.replica in
     let d = c.args.draft in
-    ends_with view store u r d c.args.last c.requires.named c.in-Ok.store c.in-Ok.outputs c.go_on.result (g.met.D.Disk.is_view store.disk) c.id-id.ensures.rest stands
+    ends_with view store u r d c.args.last c.requires.named c.in-Ok.store c.in-Ok.outputs c.go_on.result (g.met.D.Disk.is_view store.disk) c.holds.ensures.rest stands
     (commits u.content (turn_of r d)) (ended_at view store u r d c.core.result.now c.core.ensures (Ok (c.in-Ok.store, c.in-Ok.outputs)) (c.in-Ok.ensures.ends u r.state stands))
     (moments_at view store u r d c.core.result.now c.core.ensures (Ok (c.in-Ok.store, c.in-Ok.outputs)) (c.in-Ok.ensures.moments u r.state stands)) c.go_on.ensures
 
@@ -34,7 +34,7 @@ returns-in-Err g c = λ u stands.
     let r = c.args.replica in
     let d = c.args.draft in
     let t = turn_of r d in
-    subst (λ (x : Handled _). EndsEvent view store c.args.last.count u t (commits u.content t) x) (fallen_as c.in-Err.fault c.id-id.result store.id c.args.last c.fallen.result c.fallen.ensures c.id-id.ensures.value)
-    (failed view store u r d c.args.last c.requires.named (g.met.D.Disk.is_view store.disk) c.id-id.ensures.rest stands c.in-Err.fault (commits u.content (turn_of r d))
+    subst (λ (x : Handled _). EndsEvent view store c.args.last.count u t (commits u.content t) x) (fallen_as c.in-Err.fault c.id-id.result store.id c.args.last c.fallen.result c.fallen.ensures c.id-id.ensures)
+    (failed view store u r d c.args.last c.requires.named (g.met.D.Disk.is_view store.disk) c.holds.ensures.rest stands c.in-Err.fault (commits u.content (turn_of r d))
     (ended_at view store u r d c.core.result.now c.core.ensures (Err c.in-Err.fault) (c.in-Err.ensures.ends u r.state stands))
     (moments_at view store u r d c.core.result.now c.core.ensures (Err c.in-Err.fault) (c.in-Err.ensures.moments u r.state stands)))

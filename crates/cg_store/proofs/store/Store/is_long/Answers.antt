@@ -11,4 +11,4 @@ returns g c =
     let held = c.self.invariant in
     let old = g.D.Disk.view s.journal in
     subst (λ k. (u : OnDisk) → Stands k.id (g.D.Disk.view k.disk).reads u → nat_lt size_limit c.length.result ≡ nat_lt size_limit u.size) c.self.view_is
-    (λ u stands. ap (nat_lt size_limit) (stands_end s.id old.reads u s.side c.length.result stands (its_side old s.id s.side s.generation s.values held u stands) c.length.ensures.end))
+    (λ u stands. ap (nat_lt size_limit) (stands_end s.id old.reads u s.side c.length.result stands (its_side old s.id s.side s.generation s.values held u stands) c.length.ensures))

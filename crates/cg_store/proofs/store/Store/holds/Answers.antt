@@ -1,7 +1,7 @@
 use Rattle.std.proofs.Common.{subst}
 use Rattle.cg_store.specs.Stands.{OnDisk, Stands}
 use Rattle.cg_store.proofs.Appending.{standing_at}
-use Rattle.cg_store.proofs.store.Store.id.Goals as goal
+use Rattle.cg_store.proofs.store.Store.holds.Goals as goal
 
 pub returns-clause-stands : goal.returns-clause-stands
 returns-clause-stands g c =
