@@ -2,6 +2,7 @@
 use Rattle.std.specs.Prelude.{ℕ, Bool, true, false, not, ◌&&◌, List, [], Option, Some, None, Result, Ok, Err, option_map, option_and_then, map, if◌then◌else◌}
 use Rattle.cg_group.specs.declared.reason.Reason.{Reason}
 use Rattle.cg_schedule.specs.declared.event.Event.{Event}
+use Rattle.cg_schedule.specs.declared.event.Event.TheVariants.{End}
 use Rattle.cg_schedule.specs.declared.fault.LineFault.{LineFault}
 use Rattle.cg_schedule.specs.declared.fault.LineFault.TheVariants.{Syntax, NoMemory}
 use Rattle.cg_schedule.specs.declared.fault.SyntaxReason.{SyntaxReason}
@@ -9,12 +10,13 @@ use Rattle.cg_schedule.specs.declared.fault.SyntaxReason.TheVariants.{NotUtf8}
 use Rattle.cg_schedule.specs.declared.reader_state.ReaderState.{ReaderState}
 use Rattle.cg_schedule.specs.Fault.{not_utf8, misplaced}
 use Rattle.cg_model.specs.World.{World}
+use Rattle.cg_model.specs.Admission.{first_refusal, unknown}
 use Rattle.cg_model.specs.Run.{Step}
 use Rattle.cg_session.specs.declared.event.SessionEvent.{SessionEvent}
 use Rattle.cg_session.specs.Line.{session_reading}
 use Rattle.cg_follow.specs.Line.{follow_reading}
 use Rattle.cg_items.specs.declared.companion.Companion.{Companion}
-use Rattle.cg_items.specs.declared.companion.Companion.TheVariants.{Followers, Relaxed, Sessions}
+use Rattle.cg_items.specs.declared.companion.Companion.TheVariants.{Followers, Relaxed, Sessions, Imaging}
 use Rattle.cg_items.specs.declared.companion.Further.{Further}
 use Rattle.cg_items.specs.declared.companion.Further.TheVariants as further
 use Rattle.cg_items.specs.declared.companion.FurtherLine.{FurtherLine}
@@ -84,6 +86,17 @@ further_refusal w (Sessions sessions) (further.Session e) = sessions_refusal w s
 further_refusal w (Followers followers) (further.Follow e) = follow_refusal w followers e
 further_refusal w (Relaxed rows) (further.Relaxed e) = relaxed_refusal w e
 further_refusal w other e = None
+
+-- ---- which events of the schedule are admitted
+
+-- the end isn't where the disk of a replica is wanted that hasn't begun
+abbrev pub end_refusal : Companion → World → Option Reason
+end_refusal (Imaging p) w = unknown w p
+end_refusal other w = None
+
+abbrev pub refusal_for : Companion → World → Event → Option Reason
+refusal_for c w End = end_refusal c w
+refusal_for c w e = first_refusal w e
 
 -- ---- what a further event does
 

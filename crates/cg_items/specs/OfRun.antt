@@ -4,7 +4,7 @@ use Rattle.cg_group.specs.declared.reason.Reason.{Reason}
 use Rattle.cg_model.specs.World.{no_world}
 use Rattle.cg_model.specs.Run.{IsRunFrom, world_after}
 use Rattle.cg_items.specs.declared.companion.Companion.{Companion}
-use Rattle.cg_items.specs.declared.companion.Companion.TheVariants.{Alone, Followers, Relaxed, Sessions, Comparing}
+use Rattle.cg_items.specs.declared.companion.Companion.TheVariants.{Alone, Followers, Relaxed, Sessions, Comparing, Imaging}
 use Rattle.cg_items.specs.declared.companion.Further.{Further}
 use Rattle.cg_items.specs.Companion.{further_refusal}
 use Rattle.cg_items.specs.Items.{Item, steps_of}
@@ -18,6 +18,7 @@ IsFirst (Followers followers) = followers ≡ []
 IsFirst (Relaxed rows) = rows ≡ []
 IsFirst (Sessions sessions) = sessions ≡ []
 IsFirst Comparing = Unit {0}
+IsFirst (Imaging p) = Unit {0}
 
 -- With this kept at first, the steps are a run of the world, the items are noted one behind the other, and a further event that
 -- ended the run has its reason behind all of them.

@@ -1,3 +1,4 @@
+use cg_base::ReplicaId;
 use cg_follow::FollowEvent;
 use cg_follower_list::{FollowLine, FollowerList};
 use cg_made_rows::{MadeRows, RelaxedEvent, RelaxedLine};
@@ -16,6 +17,8 @@ pub enum Companion {
     Sessions(SessionList),
     /// Nothing: logs are read, and no schedule.
     Comparing,
+    /// Nothing: at the end the disk of this replica is wanted.
+    Imaging(ReplicaId),
 }
 
 impl Drop for Companion {
@@ -26,6 +29,7 @@ impl Drop for Companion {
             Companion::Relaxed(_) => {}
             Companion::Sessions(_) => {}
             Companion::Comparing => {}
+            Companion::Imaging(_) => {}
         }
     }
 }

@@ -23,7 +23,7 @@ use Rattle.cg_made_rows.specs.declared.relaxed_event.RelaxedEvent.{RelaxedEvent}
 use Rattle.cg_made_rows.specs.declared.relaxed_event.RelaxedEvent.TheVariants.{One, Both}
 use Rattle.cg_made_rows.specs.declared.relaxed_line.RelaxedLine.TheVariants.{One as ShownOne, Both as ShownBoth}
 use Rattle.cg_items.specs.declared.companion.Companion.{Companion}
-use Rattle.cg_items.specs.declared.companion.Companion.TheVariants.{Alone, Followers, Relaxed, Sessions, Comparing}
+use Rattle.cg_items.specs.declared.companion.Companion.TheVariants.{Alone, Followers, Relaxed, Sessions, Comparing, Imaging}
 use Rattle.cg_items.specs.declared.companion.Further.TheVariants as further
 use Rattle.cg_items.specs.AfterItems.{ItemAfter, world_behind}
 use Rattle.cg_items.specs.Companion.{further_refusal}
@@ -200,6 +200,7 @@ module _ (stand : AlwaysStands) (tell : EveryRunTells) (book : AlwaysMadeInBook)
   relaxed-agree (Followers fs) items refused is = others-of (Followers fs) items refl is.noted refused (λ e reason told. is.told (further.Relaxed e) reason told)
   relaxed-agree (Sessions ss) items refused is = others-of (Sessions ss) items refl is.noted refused (λ e reason told. is.told (further.Relaxed e) reason told)
   relaxed-agree Comparing items refused is = others-of Comparing items refl is.noted refused (λ e reason told. is.told (further.Relaxed e) reason told)
+  relaxed-agree (Imaging replica) items refused is = others-of (Imaging replica) items refl is.noted refused (λ e reason told. is.told (further.Relaxed e) reason told)
   relaxed-agree (Relaxed rows) items refused is =
       subst (λ (rows : List (List Action)). AreOfRun (Relaxed rows) items refused → RelaxedAgree items refused) (sym is.first)
       (λ of. relaxed-of items of.run of.noted refused (λ e reason told. of.told (further.Relaxed e) reason told)) is

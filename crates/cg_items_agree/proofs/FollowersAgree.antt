@@ -12,7 +12,7 @@ use Rattle.cg_follower_list.specs.declared.follow_line.FollowLine.{FollowLine}
 use Rattle.cg_follower_list.specs.Life.{Life, Up, Fallen, Follower}
 use Rattle.cg_follower_list.specs.Followers.{follower_at}
 use Rattle.cg_items.specs.declared.companion.Companion.{Companion}
-use Rattle.cg_items.specs.declared.companion.Companion.TheVariants.{Alone, Followers, Relaxed, Sessions, Comparing}
+use Rattle.cg_items.specs.declared.companion.Companion.TheVariants.{Alone, Followers, Relaxed, Sessions, Comparing, Imaging}
 use Rattle.cg_items.specs.declared.companion.Further.TheVariants as further
 use Rattle.cg_items.specs.Companion.{further_refusal}
 use Rattle.cg_items.specs.Followers.{follow_refusal, follow_acts}
@@ -83,6 +83,7 @@ first-followers (Followers fs) first e = ap Followers first
 first-followers (Relaxed rows) first e = absurd (let clash : false ≡ true = e in cc)
 first-followers (Sessions sessions) first e = absurd (let clash : false ≡ true = e in cc)
 first-followers Comparing first e = absurd (let clash : false ≡ true = e in cc)
+first-followers (Imaging replica) first e = absurd (let clash : false ≡ true = e in cc)
 
 kept-followers : (items : List Item) → kept_behind no_world (Followers []) items ≡ Followers (followers_behind items)
 kept-followers items = is-followers (kept_behind no_world (Followers []) items)
@@ -102,6 +103,7 @@ own-refusal w (Followers gs) fs e reason may is = ap (λ (xs : List Follower). f
 own-refusal w (Relaxed rows) fs e reason may is = absurd (let clash : None ≡ Some reason = is in cc)
 own-refusal w (Sessions sessions) fs e reason may is = absurd (let clash : None ≡ Some reason = is in cc)
 own-refusal w Comparing fs e reason may is = absurd (let clash : None ≡ Some reason = is in cc)
+own-refusal w (Imaging replica) fs e reason may is = absurd (let clash : None ≡ Some reason = is in cc)
 
 next-followers : (earlier : List Item) (i : Item) →
     followers_behind (earlier ++ i ∷ []) ≡ followers_in

@@ -9,7 +9,7 @@ use Rattle.cg_follow.specs.declared.event.FollowEvent.{FollowEvent}
 use Rattle.cg_follower_list.specs.declared.follow_line.FollowLine.{FollowLine}
 use Rattle.cg_follower_list.specs.Life.{Follower}
 use Rattle.cg_items.specs.declared.companion.Companion.{Companion}
-use Rattle.cg_items.specs.declared.companion.Companion.TheVariants.{Alone, Followers, Relaxed, Sessions, Comparing}
+use Rattle.cg_items.specs.declared.companion.Companion.TheVariants.{Alone, Followers, Relaxed, Sessions, Comparing, Imaging}
 use Rattle.cg_items.specs.declared.companion.Further.{Further}
 use Rattle.cg_items.specs.declared.companion.Further.TheVariants as further
 use Rattle.cg_items.specs.declared.companion.FurtherLine.{FurtherLine}
@@ -50,6 +50,7 @@ kind-stays w (Followers fs) asked (Some s) = refl
 kind-stays w (Relaxed rows) asked (Some s) = refl
 kind-stays w (Sessions sessions) asked (Some s) = refl
 kind-stays w Comparing asked (Some s) = refl
+kind-stays w (Imaging replica) asked (Some s) = refl
 kind-stays w c None None = refl
 kind-stays w Alone (Some e) None = refl
 kind-stays w (Followers fs) (Some (further.Follow e)) None = refl
@@ -62,6 +63,7 @@ kind-stays w (Sessions sessions) (Some (further.Follow e)) None = refl
 kind-stays w (Sessions sessions) (Some (further.Relaxed e)) None = refl
 kind-stays w (Sessions sessions) (Some (further.Session e)) None = refl
 kind-stays w Comparing (Some e) None = refl
+kind-stays w (Imaging replica) (Some e) None = refl
 
 pub kind-kept : (w : World) (c : Companion) (items : List Item) → is_following (kept_behind w c items) ≡ is_following c
 kind-kept w c [] = refl
@@ -74,6 +76,7 @@ is-followers (Followers fs) e = refl
 is-followers (Relaxed rows) e = absurd (let clash : false ≡ true = e in cc)
 is-followers (Sessions sessions) e = absurd (let clash : false ≡ true = e in cc)
 is-followers Comparing e = absurd (let clash : false ≡ true = e in cc)
+is-followers (Imaging replica) e = absurd (let clash : false ≡ true = e in cc)
 
 -- ---- the parts of an item
 
@@ -108,6 +111,7 @@ step-foreign w (Relaxed rows) asked s = refl
 step-foreign w (Sessions sessions) asked s = lines-foreign line.Session (λ l. refl)
     (sessions_follow sessions (option_and_then session_event asked) s).lines
 step-foreign w Comparing asked s = refl
+step-foreign w (Imaging replica) asked s = refl
 
 module _ (w : World) (c : Companion) (fs : List Follower) (may : MayKeep c fs) (lines : List FurtherLine) where
   abbrev Parts : Option Further → Option Step → Type 0
@@ -122,6 +126,7 @@ module _ (w : World) (c : Companion) (fs : List Follower) (may : MayKeep c fs) (
   session-lines (Followers gs) e None taken = absurd (let clash : false ≡ true = taken.0 in cc)
   session-lines (Relaxed rows) e None taken = absurd (let clash : false ≡ true = taken.0 in cc)
   session-lines Comparing e None taken = absurd (let clash : false ≡ true = taken.0 in cc)
+  session-lines (Imaging replica) e None taken = absurd (let clash : false ≡ true = taken.0 in cc)
 
   relaxed-lines : (c : Companion) (e : RelaxedEvent) (step : Option Step) → IsTaken w c step (further.Relaxed e) →
       AreForeign w c (Some (further.Relaxed e)) step
@@ -131,6 +136,7 @@ module _ (w : World) (c : Companion) (fs : List Follower) (may : MayKeep c fs) (
   relaxed-lines (Followers gs) e None taken = absurd (let clash : false ≡ true = taken.0 in cc)
   relaxed-lines (Sessions sessions) e None taken = absurd (let clash : false ≡ true = taken.0 in cc)
   relaxed-lines Comparing e None taken = absurd (let clash : false ≡ true = taken.0 in cc)
+  relaxed-lines (Imaging replica) e None taken = absurd (let clash : false ≡ true = taken.0 in cc)
 
   -- an event of followers
   own : (gs : List Follower) → Followers gs ≡ Followers fs → (e : FollowEvent) (step : Option Step) →
@@ -156,6 +162,7 @@ module _ (w : World) (c : Companion) (fs : List Follower) (may : MayKeep c fs) (
   followed (Relaxed rows) keeps e step taken is = absurd (let clash : false ≡ true = taken.0 in cc)
   followed (Sessions sessions) keeps e step taken is = absurd (let clash : false ≡ true = taken.0 in cc)
   followed Comparing keeps e step taken is = absurd (let clash : false ≡ true = taken.0 in cc)
+  followed (Imaging replica) keeps e step taken is = absurd (let clash : false ≡ true = taken.0 in cc)
 
   pub parts-of : (asked : Option Further) (step : Option Step) → IfSome asked (IsTaken w c step) →
       lines ≡ (noted_by w c asked step).lines → Parts asked step

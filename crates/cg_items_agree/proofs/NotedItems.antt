@@ -10,7 +10,7 @@ use Rattle.cg_session_list.specs.declared.session_line.SessionLine.{SessionLine}
 use Rattle.cg_made_rows.specs.declared.relaxed_event.RelaxedEvent.{RelaxedEvent}
 use Rattle.cg_made_rows.specs.declared.relaxed_line.RelaxedLine.{RelaxedLine}
 use Rattle.cg_items.specs.declared.companion.Companion.{Companion}
-use Rattle.cg_items.specs.declared.companion.Companion.TheVariants.{Alone, Followers, Relaxed, Sessions, Comparing}
+use Rattle.cg_items.specs.declared.companion.Companion.TheVariants.{Alone, Followers, Relaxed, Sessions, Comparing, Imaging}
 use Rattle.cg_items.specs.declared.companion.Further.{Further}
 use Rattle.cg_items.specs.declared.companion.Further.TheVariants as further
 use Rattle.cg_items.specs.declared.companion.FurtherLine.{FurtherLine}
@@ -118,6 +118,7 @@ kind-noted w (Followers fs) asked (Some s) = refl
 kind-noted w (Relaxed rows) asked (Some s) = refl
 kind-noted w (Sessions ss) asked (Some s) = refl
 kind-noted w Comparing asked (Some s) = refl
+kind-noted w (Imaging replica) asked (Some s) = refl
 kind-noted w c None None = refl
 kind-noted w Alone (Some e) None = refl
 kind-noted w (Followers fs) (Some (further.Follow e)) None = refl
@@ -130,6 +131,7 @@ kind-noted w (Sessions ss) (Some (further.Follow e)) None = refl
 kind-noted w (Sessions ss) (Some (further.Relaxed e)) None = refl
 kind-noted w (Sessions ss) (Some (further.Session e)) None = refl
 kind-noted w Comparing (Some e) None = refl
+kind-noted w (Imaging replica) (Some e) None = refl
 
 pub kind-kept : (w : World) (c : Companion) (items : List Item) → is_relaxed (kept_behind w c items) ≡ is_relaxed c
 kind-kept w c [] = refl
@@ -143,10 +145,12 @@ module _ (w : World) where
   others-noted (Followers fs) asked (Some s) other = refl
   others-noted (Sessions ss) asked (Some s) other = sessions-none (sessions_follow ss (option_and_then session_event asked) s).lines
   others-noted Comparing asked (Some s) other = refl
+  others-noted (Imaging replica) asked (Some s) other = refl
   others-noted Alone None None other = refl
   others-noted (Followers fs) None None other = refl
   others-noted (Sessions ss) None None other = refl
   others-noted Comparing None None other = refl
+  others-noted (Imaging replica) None None other = refl
   others-noted Alone (Some e) None other = refl
   others-noted (Followers fs) (Some (further.Follow e)) None other = followers-none (follow_acts w fs e).lines
   others-noted (Followers fs) (Some (further.Relaxed e)) None other = refl
@@ -155,6 +159,7 @@ module _ (w : World) where
   others-noted (Sessions ss) (Some (further.Follow e)) None other = refl
   others-noted (Sessions ss) (Some (further.Relaxed e)) None other = refl
   others-noted Comparing (Some e) None other = refl
+  others-noted (Imaging replica) (Some e) None other = refl
 
   not-own : (c : Companion) (e : RelaxedEvent) → is_relaxed c ≡ false → is_own c (further.Relaxed e) ≡ false
   not-own (Relaxed rows) e other = absurd (let clash : true ≡ false = other in cc)
@@ -162,6 +167,7 @@ module _ (w : World) where
   not-own (Followers fs) e other = refl
   not-own (Sessions ss) e other = refl
   not-own Comparing e other = refl
+  not-own (Imaging replica) e other = refl
 
   pub others-ask : (c : Companion) (asked : Option Further) (step : Option Step) → is_relaxed c ≡ false →
       IfSome asked (IsTaken w c step) → option_and_then relaxed_event asked ≡ None
@@ -177,3 +183,4 @@ module _ (w : World) where
   others-refuse (Followers fs) e other = refl
   others-refuse (Sessions ss) e other = refl
   others-refuse Comparing e other = refl
+  others-refuse (Imaging replica) e other = refl

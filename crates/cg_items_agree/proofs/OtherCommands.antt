@@ -11,7 +11,7 @@ use Rattle.cg_session.specs.declared.event.SessionEvent.TheVariants.{Write, Weak
 use Rattle.cg_session_list.specs.declared.session_line.SessionLine.{SessionLine}
 use Rattle.cg_session_list.specs.declared.session_line.SessionLine.TheVariants.{Answered}
 use Rattle.cg_items.specs.declared.companion.Companion.{Companion}
-use Rattle.cg_items.specs.declared.companion.Companion.TheVariants.{Alone, Followers, Relaxed, Sessions as OfSessions, Comparing}
+use Rattle.cg_items.specs.declared.companion.Companion.TheVariants.{Alone, Followers, Relaxed, Sessions as OfSessions, Comparing, Imaging}
 use Rattle.cg_items.specs.declared.companion.Further.{Further}
 use Rattle.cg_items.specs.declared.companion.Further.TheVariants as further
 use Rattle.cg_items.specs.declared.companion.FurtherLine.{FurtherLine}
@@ -52,10 +52,15 @@ silent w Alone (Some (further.Session e)) o other taken = no-own taken.0
 silent w Alone (Some (further.Follow e)) o other taken = no-own taken.0
 silent w Alone (Some (further.Relaxed e)) o other taken = no-own taken.0
 silent w Comparing None None other taken = record { other = tt; lines = refl; event = refl }
+silent w (Imaging replica) None None other taken = record { other = tt; lines = refl; event = refl }
 silent w Comparing None (Some s) other taken = record { other = tt; lines = refl; event = refl }
+silent w (Imaging replica) None (Some s) other taken = record { other = tt; lines = refl; event = refl }
 silent w Comparing (Some (further.Session e)) o other taken = no-own taken.0
+silent w (Imaging replica) (Some (further.Session e)) o other taken = no-own taken.0
 silent w Comparing (Some (further.Follow e)) o other taken = no-own taken.0
+silent w (Imaging replica) (Some (further.Follow e)) o other taken = no-own taken.0
 silent w Comparing (Some (further.Relaxed e)) o other taken = no-own taken.0
+silent w (Imaging replica) (Some (further.Relaxed e)) o other taken = no-own taken.0
 silent w (Followers list) None None other taken = record { other = tt; lines = refl; event = refl }
 silent w (Followers list) None (Some s) other taken = record { other = tt; lines = refl; event = refl }
 silent w (Followers list) (Some (further.Session e)) o other taken = no-own taken.0
@@ -126,6 +131,7 @@ no-refusal w Alone e other = refl
 no-refusal w (Followers list) e other = refl
 no-refusal w (Relaxed rows) e other = refl
 no-refusal w Comparing e other = refl
+no-refusal w (Imaging replica) e other = refl
 
 no-event : {A : Type 0} (o : Option SessionEvent) (e : SessionEvent) → o ≡ None → o ≡ Some e → A
 no-event o e none some = absurd (let clash : None ≡ Some e = sym none ∙ some in cc)

@@ -29,7 +29,7 @@ use Rattle.cg_session_list.specs.declared.session_line.SessionLine.{SessionLine}
 use Rattle.cg_session_list.specs.declared.session_line.SessionLine.TheVariants.{Wrote, At, Behind, Answered}
 use Rattle.cg_session_list.specs.Sessions.{token_of, unknown_session}
 use Rattle.cg_items.specs.declared.companion.Companion.{Companion}
-use Rattle.cg_items.specs.declared.companion.Companion.TheVariants.{Alone, Followers, Relaxed, Sessions as OfSessions, Comparing}
+use Rattle.cg_items.specs.declared.companion.Companion.TheVariants.{Alone, Followers, Relaxed, Sessions as OfSessions, Comparing, Imaging}
 use Rattle.cg_items.specs.declared.companion.Further.{Further}
 use Rattle.cg_items.specs.declared.companion.Further.TheVariants as further
 use Rattle.cg_items.specs.AfterItems.{ItemAfter, world_behind, order_behind, position_behind, prefix_answer}
@@ -298,3 +298,4 @@ every-run laws Alone items refused of = others-agree Alone items refused tt of
 every-run laws (Followers list) items refused of = others-agree (Followers list) items refused tt of
 every-run laws (Relaxed rows) items refused of = others-agree (Relaxed rows) items refused tt of
 every-run laws Comparing items refused of = others-agree Comparing items refused tt of
+every-run laws (Imaging replica) items refused of = others-agree (Imaging replica) items refused tt of

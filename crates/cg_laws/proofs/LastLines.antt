@@ -86,6 +86,8 @@ line-plain (status.Limit line what) steps lines =
 line-plain (status.NoEnd all) steps lines = numbered (codes "no end ") all (looked (codes "no end ") refl)
 line-plain status.WriteFault steps lines = tt
 line-plain status.NoMemory steps lines = tt
+line-plain status.NotAnImage steps lines = looked (codes "not an image") refl
+line-plain status.NotAStore steps lines = looked (codes "not a store") refl
 
 pub tail-is : (st : Status) (steps lines : ℕ) → IsTail (tail_text st steps lines)
 tail-is st steps lines = record { line = tail_line st steps lines; whole = refl; alone = line-plain st steps lines }

@@ -12,14 +12,15 @@ use Rattle.cg_model.specs.Step.{world_step}
 use Rattle.cg_model.specs.Run.{Step, Refusal, step_limit}
 use Rattle.cg_model.specs.Schedules.{Run, with_step, step_unless, step_on, step, deliver_some, deliver_ready as hand_ready, pass, passes as play_passes, play}
 use Rattle.cg_items.specs.declared.companion.Companion.TheVariants.{Alone}
-use Rattle.cg_items.specs.Companion.{Noted, follows}
+use Rattle.cg_items.specs.declared.companion.Companion.{Companion}
+use Rattle.cg_items.specs.Companion.{Noted, end_refusal, follows}
 use Rattle.cg_items.specs.Items.{Item}
 use Rattle.cg_outcome.specs.Produced.{Progress, Finding, Produced, prepend, went_on, ended_with, and_then, counted, stepped, unless_refused, one_step}
 use Rattle.cg_outcome.specs.declared.status.Status.{Status}
 use Rattle.cg_outcome.specs.declared.status.Status.TheVariants as status
 use Rattle.cg_outcome.specs.declared.status.Limit.TheVariants.{Steps}
 use Rattle.cg_outcome.specs.Totals.{with_entry}
-use Rattle.cg_outcome.specs.Rounds.{deliver_ready, deliveries, one_pass, passes, happened}
+use Rattle.cg_outcome.specs.Rounds.{deliver_ready, deliveries, one_pass, passes, ended_unless, happened}
 use Rattle.cg_laws.specs.Admitted.{IsEndOrLimit}
 
 -- ---- a run that was refused stays so
@@ -179,5 +180,6 @@ Follows-passes n (suc count) run s same before free =
 pub Follows-happened : (n : ℕ) (e : Event) (run : Run) (s : Progress) → IsAt run s → IsFree run → IsFree (play run e) → Follows (play run e) s.reader (happened n e s)
 unfolding happened
 Follows-happened n (Rounds count) run s same before free = Follows-passes n count run s same before free
-Follows-happened n End run s same before free = Follows-went_on run s same
+Follows-happened n End run s same before free =
+    subst (λ (c : Companion). Follows run s.reader (ended_unless (end_refusal c s.world) n s)) (sym same.alone) (Follows-went_on run s same)
 Follows-happened n other run s same before free = Follows-one_step n other run s same before free

@@ -99,15 +99,15 @@ told : (report : Report) (words : List (List ℕ)) (bytes : List ℕ) → IsNote
     (run : HasPut report words bytes) → Told report (come_to report words bytes run) bytes
 told report words bytes runs run =
     let p = come_to report words bytes run in
-    let put = all-put (text_put (command_of words) p) (status_of p) run.from run.to run.status run.finding run.ran.ends in
+    let put = all-put (text_put (command_of words) run.ran.image p) (status_of p) run.from run.to run.status run.finding run.ran.ends in
     let has = has-found p run.status put.0 in
-    let there : Appends (Some run.before) (Some (run.before ++ bytes)) (text_put (command_of words) p) =
-    subst (λ (h : Option (List ℕ)). Appends h (Some (run.before ++ bytes)) (text_put (command_of words) p)) run.held
-    (subst (λ (h : Option (List ℕ)). Appends run.from.held h (text_put (command_of words) p)) run.grown put.1.all) in
+    let there : Appends (Some run.before) (Some (run.before ++ bytes)) (text_put (command_of words) run.ran.image p) =
+    subst (λ (h : Option (List ℕ)). Appends h (Some (run.before ++ bytes)) (text_put (command_of words) run.ran.image p)) run.held
+    (subst (λ (h : Option (List ℕ)). Appends run.from.held h (text_put (command_of words) run.ran.image p)) run.grown put.1.all) in
     record {
       finding = has.0;
       found = has.1;
-      text = append_cancel_left run.before bytes (text_put (command_of words) p) there ∙ ap (λ (c : Option Command). text_put c p) run.asked;
+      text = append_cancel_left run.before bytes (text_put (command_of words) run.ran.image p) there ∙ ap (λ (c : Option Command). text_put c run.ran.image p) run.asked;
       noted = subst (λ (command : Option Command). AreNoted no_world (companion_for command) 0 p.items) run.asked (runs run.ran.taken run.ran.ending);
       short = run.ran.short (ap reads_input run.asked) run.finding;
     }

@@ -1,3 +1,4 @@
+pub mod EndedLines
 pub mod OwnLines
 pub mod RefusedLines
 pub mod RunFacts

@@ -23,18 +23,21 @@ use Rattle.cg_model.specs.World.{World, no_world, has_begun, up_replicas}
 use Rattle.cg_model.specs.Admission.{takes_part, first_refusal}
 use Rattle.cg_model.specs.Run.{world_after, step_limit}
 use Rattle.cg_model.specs.NodeLaws.{begun_stay, up_begun}
-use Rattle.cg_outcome.specs.Outcome.{Ending, Ended, Failed, Open, lines_alone, performed, pieces_for, read_outcome, further_outcome, log_outcome, line_outcome, without_return, limit_of, unless_passed, whole_line, at_end, cut_line, last_piece, replayed, companion_for, outcome_of, outcome}
+use Rattle.cg_outcome.specs.Outcome.{Ending, Ended, Failed, Open, lines_alone, performed, pieces_for, read_outcome, further_outcome, log_outcome, line_outcome, without_return, limit_of, unless_passed, whole_line, at_end, cut_line, last_piece, replayed, companion_for, seen_in, looked_at, inspection, outcome_of, outcome}
 use Rattle.cg_outcome.specs.declared.command.Command.{Command}
-use Rattle.cg_outcome.specs.declared.command.Command.TheVariants.{Generate, Trial, Compare}
+use Rattle.cg_outcome.specs.declared.command.Command.TheVariants.{Generate, Trial, Compare, Inspect}
 use Rattle.cg_items.specs.declared.companion.Companion.{Companion}
-use Rattle.cg_items.specs.declared.companion.Companion.TheVariants.{Alone, Followers, Relaxed as MadeRows, Sessions as OpenSessions, Comparing}
+use Rattle.cg_items.specs.declared.companion.Companion.TheVariants.{Alone, Followers, Relaxed as MadeRows, Sessions as OpenSessions, Comparing, Imaging}
 use Rattle.cg_items.specs.declared.companion.Further.{Further}
 use Rattle.cg_items.specs.declared.companion.Further.TheVariants as further
-use Rattle.cg_items.specs.Companion.{further_reading, is_own, in_place, further_refusal, event_of, acts}
+use Rattle.cg_items.specs.Companion.{further_reading, is_own, in_place, further_refusal, end_refusal, refusal_for, event_of, acts}
 use Rattle.cg_items.specs.Items.{Item, steps_of}
 use Rattle.cg_items.specs.Sessions.{not_creating}
 use Rattle.cg_session_list.specs.Sessions.{unknown_session}
 use Rattle.cg_session.specs.declared.event.SessionEvent.TheVariants.{Begin, Write, Weak}
+use Rattle.cg_image.specs.Inspecting.{Inspected, NotAnImage, NotAStore, Holds as HoldsReplica, inspected}
+use Rattle.cg_outcome.specs.declared.limits.TheConstants.{INPUT_BYTES}
+use Rattle.cg_outcome.specs.declared.status.Limit.TheVariants as limit
 use Rattle.cg_compare.specs.declared.log_line.LogLine.{LogLine}
 use Rattle.cg_compare.specs.declared.log_line.LogLine.TheVariants as log_line
 use Rattle.cg_compare.specs.Lines.{reading as log_reading}
@@ -45,7 +48,7 @@ use Rattle.cg_outcome.specs.declared.status.Status.{Status}
 use Rattle.cg_outcome.specs.declared.status.Status.TheVariants as status
 use Rattle.cg_outcome.specs.declared.status.Limit.{Limit}
 use Rattle.cg_outcome.specs.declared.status.Limit.TheVariants.{Steps}
-use Rattle.cg_outcome.specs.Rounds.{deliver_ready, deliveries, one_pass, passes, happened}
+use Rattle.cg_outcome.specs.Rounds.{deliver_ready, deliveries, one_pass, passes, ended_unless, happened}
 use Rattle.cg_outcome.specs.Refusing.{state_past_lines}
 use Rattle.cg_outcome.specs.Taking.{TellsOfRefusals}
 use Rattle.cg_outcome.specs.UnderWay.{IsUnderWay}
@@ -155,28 +158,42 @@ Passes-passes n (suc count) s =
 -- ---- events
 
 -- where the part ends by a refusal, it is that of the event of line n, in the world that it leaves
-abbrev RefusesEvent : ℕ → Event → Produced → Type 0
-RefusesEvent n event p = (m : ℕ) (r : Reason) → status_of p ≡ Some (status.Refused m r) → (m ≡ n) × (first_refusal p.progress.world event ≡ Some r)
+abbrev RefusesStep : ℕ → Event → Produced → Type 0
+RefusesStep n event p = (m : ℕ) (r : Reason) → status_of p ≡ Some (status.Refused m r) → (m ≡ n) × (first_refusal p.progress.world event ≡ Some r)
 
-one_step-refuses : (n : ℕ) (event : Event) (s : Progress) → RefusesEvent n event (one_step n None event s)
+-- in a run of the command
+abbrev RefusesEvent : Companion → ℕ → Event → Produced → Type 0
+RefusesEvent c n event p = (m : ℕ) (r : Reason) → status_of p ≡ Some (status.Refused m r) → (m ≡ n) × (refusal_for c p.progress.world event ≡ Some r)
+
+one_step-refuses : (n : ℕ) (event : Event) (s : Progress) → RefusesStep n event (one_step n None event s)
 one_step-refuses n event s = by_refusal (first_refusal s.world event) refl where
-  by_limit : (b : Bool) (item : Item) (next : Progress) → RefusesEvent n event (if b then record { items = item ∷ []; found = None; progress = next } else ended_with (status.Limit n Steps) n s)
+  by_limit : (b : Bool) (item : Item) (next : Progress) → RefusesStep n event (if b then record { items = item ∷ []; found = None; progress = next } else ended_with (status.Limit n Steps) n s)
   by_limit true item next = λ m r e. cc
   by_limit false item next = λ m r e. cc
 
-  by_refusal : (o : Option Reason) → first_refusal s.world event ≡ o → RefusesEvent n event (unless_refused o n None event s)
+  by_refusal : (o : Option Reason) → first_refusal s.world event ≡ o → RefusesStep n event (unless_refused o n None event s)
   by_refusal None is = by_limit (nat_lt s.count step_limit) (item_made None event s) (behind None event s)
   by_refusal (Some reason) is = λ m r e. (cc, is ∙ cc)
 
-happened-refuses : (n : ℕ) (event : Event) (s : Progress) → RefusesEvent n event (happened n event s)
+ended-refuses : (n : ℕ) (s : Progress) → RefusesEvent s.companion n End (ended_unless (end_refusal s.companion s.world) n s)
+ended-refuses n s = by_refusal (end_refusal s.companion s.world) refl where
+  by_refusal : (o : Option Reason) → end_refusal s.companion s.world ≡ o → RefusesEvent s.companion n End (ended_unless o n s)
+  by_refusal None is = λ m r e. cc
+  by_refusal (Some reason) is = λ m r e. (cc, is ∙ cc)
+
+happened-refuses : (n : ℕ) (event : Event) (s : Progress) → RefusesEvent s.companion n event (happened n event s)
 unfolding happened
-happened-refuses n End s = λ m r e. cc
+happened-refuses n End s = ended-refuses n s
 happened-refuses n (Rounds count) s = λ m r e. absurd ((Passes-passes n count s).admits m r e)
 happened-refuses n other s = one_step-refuses n other s
 
-happened-reader : (n : ℕ) (event : Event) (s : Progress) → (happened n event s).progress.reader ≡ s.reader
+ended-reader : (o : Option Reason) (n : ℕ) (s : Progress) → (ended_unless o n s).progress.reader ≡ s.reader
+ended-reader None n s = refl
+ended-reader (Some reason) n s = refl
+
+pub happened-reader : (n : ℕ) (event : Event) (s : Progress) → (happened n event s).progress.reader ≡ s.reader
 unfolding happened
-happened-reader n End s = refl
+happened-reader n End s = ended-reader (end_refusal s.companion s.world) n s
 happened-reader n (Rounds count) s = (Passes-passes n count s).reader
 happened-reader n other s = one_step-reader n None other s
 
@@ -199,6 +216,7 @@ stands-admitted w (Followers followers) (further.Session e) event own admitted i
 stands-admitted w (MadeRows rows) (further.Session e) event own admitted is = absurd (false≢true own)
 stands-admitted w Alone (further.Session e) event own admitted is = absurd (false≢true own)
 stands-admitted w Comparing (further.Session e) event own admitted is = absurd (false≢true own)
+stands-admitted w (Imaging p) (further.Session e) event own admitted is = absurd (false≢true own)
 stands-admitted w c (further.Follow e) event own admitted is = absurd cc
 stands-admitted w c (further.Relaxed e) event own admitted is = absurd cc
 
@@ -244,7 +262,7 @@ state_past state text = state_behind state (reading state text)
 record ReadsEvent (text : List ℕ) (s : Progress) (p : Produced) (r : Reason) : Type 0 where
   pub event : Event
   pub reads : Reads s.reader text event
-  pub refused : first_refusal p.progress.world event ≡ Some r
+  pub refused : refusal_for s.companion p.progress.world event ≡ Some r
 
 -- or as one of the command's own
 record ReadsOwn (text : List ℕ) (s : Progress) (p : Produced) (r : Reason) : Type 0 where
@@ -296,7 +314,7 @@ unless-line (Some what) n text s p is = ends-line n text s (status.Limit n what)
 -- ---- the whole input
 
 -- one of these pieces is an event that isn't admitted in the world, first for this reason
-record RefusesIn (all : List (List ℕ)) (w : World) (n : ℕ) (reason : Reason) : Type 0 where
+record RefusesIn (c : Companion) (all : List (List ℕ)) (w : World) (n : ℕ) (reason : Reason) : Type 0 where
   pub before : List (List ℕ)
   pub line : List ℕ
   pub behind : List (List ℕ)
@@ -304,7 +322,7 @@ record RefusesIn (all : List (List ℕ)) (w : World) (n : ℕ) (reason : Reason)
   pub numbered : n ≡ suc (length before)
   pub event : Event
   pub reads : Reads (state_past_lines first_state before) (text_before behind line) event
-  pub refused : first_refusal w event ≡ Some reason
+  pub refused : refusal_for c w event ≡ Some reason
 
 -- or one of a command's own that isn't admitted with this kept beside the world, where that was kept at first
 record RefusesOwnIn (c : Companion) (all : List (List ℕ)) (w : World) (kept : Companion) (n : ℕ) (reason : Reason) : Type 0 where
@@ -320,7 +338,7 @@ record RefusesOwnIn (c : Companion) (all : List (List ℕ)) (w : World) (kept : 
 -- one of the two, where the part ends by a refusal
 abbrev RefusesOf : Companion → List (List ℕ) → Produced → Type 0
 RefusesOf c all p = (m : ℕ) (r : Reason) → status_of p ≡ Some (status.Refused m r) →
-    RefusesIn all p.progress.world m r ⊎ RefusesOwnIn c all p.progress.world p.progress.companion m r
+    RefusesIn c all p.progress.world m r ⊎ RefusesOwnIn c all p.progress.world p.progress.companion m r
 
 -- how lines read doesn't depend on what is kept, but on what kind it is
 bare-reads : (c : Companion) (line : List ℕ) → further_reading c line ≡ further_reading (bare c) line
@@ -337,6 +355,25 @@ bare-comparing other = refl
 
 same-reads : (c d : Companion) (line : List ℕ) → bare d ≡ bare c → further_reading d line ≡ further_reading c line
 same-reads c d line same = bare-reads d line ∙ ap (λ (b : Companion). further_reading b line) same ∙ sym (bare-reads c line)
+
+-- nor does what the end is refused for
+bare-refuses : (c : Companion) (w : World) (event : Event) → refusal_for c w event ≡ refusal_for (bare c) w event
+bare-refuses (OpenSessions opened) w event = by_end event where
+  by_end : (event : Event) → refusal_for (OpenSessions opened) w event ≡ refusal_for (bare (OpenSessions opened)) w event
+  by_end End = refl
+  by_end other = refl
+bare-refuses (Followers followers) w event = by_end event where
+  by_end : (event : Event) → refusal_for (Followers followers) w event ≡ refusal_for (bare (Followers followers)) w event
+  by_end End = refl
+  by_end other = refl
+bare-refuses (MadeRows rows) w event = by_end event where
+  by_end : (event : Event) → refusal_for (MadeRows rows) w event ≡ refusal_for (bare (MadeRows rows)) w event
+  by_end End = refl
+  by_end other = refl
+bare-refuses other w event = refl
+
+same-refuses : (c d : Companion) (w : World) (event : Event) → bare d ≡ bare c → refusal_for d w event ≡ refusal_for c w event
+same-refuses c d w event same = bare-refuses d w event ∙ ap (λ (b : Companion). refusal_for b w event) same ∙ sym (bare-refuses c w event)
 
 not-comparing : (c d : Companion) → bare d ≡ bare c → is_comparing c ≡ false → is_comparing d ≡ false
 not-comparing c d same other = bare-comparing d ∙ ap is_comparing same ∙ sym (bare-comparing c) ∙ other
@@ -385,7 +422,7 @@ module _ (exact : AreExact) (c : Companion) (other : is_comparing c ≡ false) (
           numbered = why.0 ∙ numbered;
           event = event.event;
           reads = subst (λ state. Reads state (text_before behind line) event.event) b.here event.reads;
-          refused = event.refused;
+          refused = sym (same-refuses c s.companion p.progress.world event.event b.kind) ∙ event.refused;
         })
         | inr own ↦ inr (record {
           before = before;
@@ -518,6 +555,24 @@ compares-replayed n at (line ∷ next ∷ more) how s is =
     (compares-unless (limit_of n (length line) (at + length line + 1)) n s (line_outcome n (without_return line) s) is (compares-line n (without_return line) s is))
     (compares-replayed (n + 1) (at + length line + 1) (next ∷ more) how p.progress)
 
+-- ---- what is looked at refuses nothing
+
+inspection-admits : (taken : List ℕ) (how : Ending) → Admits (inspection taken how)
+inspection-admits taken how = by_limit (nat_lt INPUT_BYTES (length taken)) where
+  by_seen : (x : Inspected) → Admits (seen_in x)
+  by_seen NotAnImage = λ m r e. cc
+  by_seen NotAStore = λ m r e. cc
+  by_seen (HoldsReplica r) = λ m r e. cc
+
+  by_ending : (how : Ending) → Admits (looked_at taken how)
+  by_ending Ended = by_seen (inspected taken)
+  by_ending Failed = λ m r e. cc
+  by_ending Open = λ m r e. cc
+
+  by_limit : (b : Bool) → Admits (cond b (ended_with (status.Limit 0 limit.Input) 0 (before_all Alone)) (looked_at taken how))
+  by_limit true = λ m r e. cc
+  by_limit false = by_ending how
+
 -- ---- all commands
 
 outcome-refuses_in : (words : List (List ℕ)) (taken : List ℕ) (how : Ending) → AreExact → RefusesOf (companion_for (command_of words)) (pieces_for (command_of words) taken) (outcome words taken how)
@@ -528,6 +583,7 @@ outcome-refuses_in words taken how exact = by_command (command_of words) where
   by_command (Some (Trial seed replicas lines)) =
       performed-refuses exact (lines_alone (generated seed replicas lines)) [] (generated seed replicas lines) 0 (before_all Alone) refl (first-before Alone) refl
   by_command (Some Compare) = λ m r e. absurd ((compares-replayed 1 0 (pieces_of 10 taken) how (before_all Comparing) refl).admits m r e)
+  by_command (Some Inspect) = λ m r e. absurd (inspection-admits taken how m r e)
   by_command other =
       replayed-refuses exact (companion_for other) refl (pieces_of 10 taken) [] (pieces_of 10 taken) 1 0 how (before_all (companion_for other)) refl (first-before (companion_for other)) refl
 
@@ -545,7 +601,7 @@ outcome-refuses words exact taken how n reason e =
         numbered = why.numbered;
         event = why.event;
         reads = why.reads;
-        refused = subst (λ (w : World). first_refusal w why.event ≡ Some reason) h.world why.refused;
+        refused = subst (λ (w : World). refusal_for c w why.event ≡ Some reason) h.world why.refused;
       })
       | inr why ↦ inr (record {
         before = why.before;

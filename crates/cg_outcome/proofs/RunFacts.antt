@@ -25,17 +25,20 @@ use Rattle.cg_model.specs.EveryRun.{Agreement, IsRefused, EveryRunAgrees}
 use Rattle.cg_model.specs.NodeLaws.{step_nodes}
 use Rattle.cg_terms.specs.Terms.{Guarantees, AgreementGuarantees}
 use Rattle.cg_outcome.specs.declared.command.Command.{Command}
-use Rattle.cg_outcome.specs.declared.command.Command.TheVariants.{Generate, Trial, Follow, Relaxed, Sessions, Compare}
+use Rattle.cg_outcome.specs.declared.command.Command.TheVariants.{Generate, Trial, Follow, Relaxed, Sessions, Compare, Image, Inspect}
 use Rattle.cg_outcome.specs.Commands.{command_of}
 use Rattle.cg_items.specs.declared.companion.Companion.{Companion}
 use Rattle.cg_items.specs.declared.companion.Companion.TheVariants.{Alone, Followers, Relaxed as MadeRows, Sessions as OpenSessions, Comparing}
 use Rattle.cg_items.specs.declared.companion.Further.{Further}
 use Rattle.cg_items.specs.declared.companion.Further.TheVariants as further
-use Rattle.cg_items.specs.Companion.{further_reading, is_own, in_place, further_refusal, event_of, acts, follows}
+use Rattle.cg_items.specs.Companion.{further_reading, is_own, in_place, further_refusal, end_refusal, event_of, acts, follows}
 use Rattle.cg_items.specs.Items.{Item, steps_of}
 use Rattle.cg_items.specs.Kept.{next_world, noted_by, kept_behind, IsTaken, AreNoted}
 use Rattle.cg_items.specs.OfRun.{IsFirst, AreOfRun}
 use Rattle.cg_items.specs.Refused.{OfEvent, OfFurther}
+use Rattle.cg_image.specs.Inspecting.{Inspected, NotAnImage, NotAStore, Holds as HoldsReplica, inspected}
+use Rattle.cg_outcome.specs.declared.limits.TheConstants.{INPUT_BYTES}
+use Rattle.cg_outcome.specs.declared.status.Limit.TheVariants as limit
 use Rattle.cg_compare.specs.declared.log_line.LogLine.{LogLine}
 use Rattle.cg_compare.specs.declared.log_line.LogLine.TheVariants as log_line
 use Rattle.cg_compare.specs.Lines.{reading as log_reading}
@@ -46,8 +49,8 @@ use Rattle.cg_outcome.specs.declared.status.Status.{Status}
 use Rattle.cg_outcome.specs.declared.status.Status.TheVariants as status
 use Rattle.cg_outcome.specs.declared.status.Limit.{Limit}
 use Rattle.cg_outcome.specs.declared.status.Limit.TheVariants.{Steps}
-use Rattle.cg_outcome.specs.Rounds.{deliver_ready, deliveries, one_pass, passes, happened}
-use Rattle.cg_outcome.specs.Outcome.{Ending, Ended, Failed, Open, performed, unreadable, read_outcome, further_outcome, log_outcome, line_beside, line_outcome, companion_for, without_return, limit_of, unless_passed, whole_line, at_end, cut_line, last_piece, replayed, outcome_of, outcome}
+use Rattle.cg_outcome.specs.Rounds.{deliver_ready, deliveries, one_pass, passes, ended_unless, happened}
+use Rattle.cg_outcome.specs.Outcome.{Ending, Ended, Failed, Open, performed, unreadable, read_outcome, further_outcome, log_outcome, line_beside, line_outcome, companion_for, without_return, limit_of, unless_passed, whole_line, at_end, cut_line, last_piece, replayed, seen_in, looked_at, inspection, outcome_of, outcome}
 use Rattle.cg_outcome.specs.UnderWay.{IsUnderWay}
 use Rattle.cg_outcome.specs.AskedLaws.{may_ask, before_under_way}
 use Rattle.cg_outcome.specs.FurtherLaws.{StandsFor, AreExact, further-own, further-stands, placed_started}
@@ -353,7 +356,11 @@ unfolding happened
 Holds-read n (Start set) s under fit within =
     let fresh = not_true s.reader.started (and_parts (not s.reader.ended) (not s.reader.started) fit).1 in
     Holds-moved s (Start set) (one_step n None (Start set) (moved (Start set) s)) (Holds-one_step n None (Start set) (moved (Start set) s) tt (under.before fresh, within) refl)
-Holds-read n End s under fit within = Holds-went_on s (moved End s) refl refl refl (record { before = under.before; begun = under.begun })
+Holds-read n End s under fit within = by_refusal (end_refusal s.companion s.world) where
+  by_refusal : (o : Option Reason) → Holds s (ended_unless o n (moved End s))
+  by_refusal None = Holds-went_on s (moved End s) refl refl refl (record { before = under.before; begun = under.begun })
+  by_refusal (Some reason) =
+      Holds-moved s End (ended_with (status.Refused n reason) n (moved End s)) (Holds-ended_with (status.Refused n reason) n (moved End s))
 Holds-read n (Rounds count) s under fit within =
     Holds-moved s (Rounds count) (passes n count (moved (Rounds count) s))
     (Stays-passes n count (moved (Rounds count) s) (record { before = under.before; begun = under.begun }) (and_parts (not s.reader.ended) s.reader.started fit).1).holds
@@ -436,12 +443,30 @@ Holds-performed gone (event ∷ events) s exact under =
     let h = Holds-line (gone + 1) (without_return (line_of event)) s exact under in
     Holds-and_then s p (performed (gone + 1) events) h (λ e. Holds-performed (gone + 1) events p.progress exact (h.under_way e))
 
+-- an inspection makes no step
+Holds-seen : (x : Inspected) → Holds (before_all Alone) (seen_in x)
+Holds-seen NotAnImage = Holds-ended_with status.NotAnImage 0 (before_all Alone)
+Holds-seen NotAStore = Holds-ended_with status.NotAStore 0 (before_all Alone)
+Holds-seen (HoldsReplica r) = record { is_run = tt; noted = tt; world = refl; kept = refl; count = omega arith; refused = tt; told = λ event reason e. cc; under_way = λ e. absurd cc }
+
+Holds-inspection : (taken : List ℕ) (how : Ending) → Holds (before_all Alone) (inspection taken how)
+Holds-inspection taken how = by_limit (nat_lt INPUT_BYTES (length taken)) where
+  by_ending : (how : Ending) → Holds (before_all Alone) (looked_at taken how)
+  by_ending Ended = Holds-seen (inspected taken)
+  by_ending Failed = Holds-ended_with status.ReadFault 0 (before_all Alone)
+  by_ending Open = Holds-went_on (before_all Alone) (before_all Alone) refl refl refl (before_under_way Alone)
+
+  by_limit : (b : Bool) → Holds (before_all Alone) (cond b (ended_with (status.Limit 0 limit.Input) 0 (before_all Alone)) (looked_at taken how))
+  by_limit true = Holds-ended_with (status.Limit 0 limit.Input) 0 (before_all Alone)
+  by_limit false = by_ending how
+
 pub Holds-outcome : (words : List (List ℕ)) (taken : List ℕ) (how : Ending) → AreExact → Holds (before_all (companion_for (command_of words))) (outcome words taken how)
 Holds-outcome words taken how exact = by_command (command_of words) where
   by_command : (c : Option Command) → Holds (before_all (companion_for c)) (outcome_of c taken how)
   by_command None = Holds-ended_with status.Usage 0 (before_all Alone)
   by_command (Some (Generate seed replicas lines)) = Holds-ended_with status.Done 0 (before_all Alone)
   by_command (Some (Trial seed replicas lines)) = Holds-performed 0 (generated seed replicas lines) (before_all Alone) exact (before_under_way Alone)
+  by_command (Some Inspect) = Holds-inspection taken how
   by_command other = Holds-replayed 1 0 (pieces_of 10 taken) how (before_all (companion_for other)) exact (before_under_way (companion_for other))
 
 pub outcome-is_run : (words : List (List ℕ)) (taken : List ℕ) (how : Ending) → AreExact → IsRunFrom no_world (steps_of (outcome words taken how).items)
@@ -457,6 +482,8 @@ is-first (Some Follow) = refl
 is-first (Some Relaxed) = refl
 is-first (Some Sessions) = refl
 is-first (Some Compare) = tt
+is-first (Some (Image p)) = tt
+is-first (Some Inspect) = tt
 is-first other = tt
 
 -- the items are those of a run, with what the command keeps at first

@@ -1,11 +1,11 @@
 -- The commands that words are.
-use Rattle.std.specs.Prelude.{ℕ, nat_le, ◌&&◌, Bool, true, false, List, [], ◌∷◌, codes, Option, Some, None, option_and_then, if◌then◌else◌}
+use Rattle.std.specs.Prelude.{ℕ, nat_le, ◌&&◌, Bool, true, false, List, [], ◌∷◌, codes, Option, Some, None, option_and_then, option_map, if◌then◌else◌}
 use Rattle.std.specs.Result.{result_ok}
 use Rattle.std.specs.Str.{bytes_eq}
 use Rattle.cg_outcome.specs.declared.limits.TheConstants.{LINES}
 use Rattle.cg_text.specs.Numbers.{read_u64}
 use Rattle.cg_outcome.specs.declared.command.Command.{Command}
-use Rattle.cg_outcome.specs.declared.command.Command.TheVariants.{Replay, Generate, Trial, Follow, Relaxed, Sessions, Compare}
+use Rattle.cg_outcome.specs.declared.command.Command.TheVariants.{Replay, Generate, Trial, Follow, Relaxed, Sessions, Compare, Image, Inspect}
 use Rattle.cg_items.specs.declared.report.Report.TheVariants.{Whole, Tail, Json}
 
 -- the number that a word spells, where it is in a range
@@ -31,8 +31,11 @@ command_of (word ∷ []) =
     else if bytes_eq word (codes "relaxed") then Some Relaxed
     else if bytes_eq word (codes "sessions") then Some Sessions
     else if bytes_eq word (codes "compare") then Some Compare
+    else if bytes_eq word (codes "inspect") then Some Inspect
     else if bytes_eq word (codes "json") then Some (Replay Json)
     else None
+command_of (word ∷ id ∷ []) =
+    if bytes_eq word (codes "image") then option_map Image (number_in 1 32 id) else None
 command_of (word ∷ seed ∷ replicas ∷ lines ∷ []) =
     if bytes_eq word (codes "generate") then read_numbers Generate seed replicas lines
     else if bytes_eq word (codes "trial") then read_numbers Trial seed replicas lines

@@ -1,6 +1,6 @@
 -- Where no take failed a run comes to what its whole input comes to: a front that comes to something comes to the same.
 use Rattle.std.proofs.Common.{◌≡◌, ◌⊎◌, ◌≤◌, ℕ, ◌+◌, ◌==◌, nat_lt, List, [], ◌∷◌, ◌++◌, length, Option, Some, None, Bool, true, false, cond, refl, sym, ap, subst, ◌∙◌, arith, length-append, inl, inr}
-use Rattle.std.proofs.lemmas.Bool.{true≢false}
+use Rattle.std.proofs.lemmas.Bool.{true≢false, lt-ltb, ltb-true}
 use Rattle.std.proofs.lemmas.List.{append-nil}
 use Rattle.std.specs.Io.KnownBytes.{Consumes, IsAtEnd}
 use Rattle.std.specs.List.{onto_first}
@@ -8,9 +8,9 @@ use Rattle.cg_outcome.specs.declared.limits.TheConstants.{INPUT_BYTES, LINES, LI
 use Rattle.cg_base.specs.Text.{pieces_of, is_nil}
 use Rattle.cg_io.specs.Outside.{SourceView, SinkView}
 use Rattle.cg_outcome.specs.declared.command.Command.{Command}
-use Rattle.cg_outcome.specs.declared.command.Command.TheVariants.{Generate, Trial}
+use Rattle.cg_outcome.specs.declared.command.Command.TheVariants.{Generate, Trial, Inspect}
 use Rattle.cg_items.specs.declared.companion.Companion.{Companion}
-use Rattle.cg_outcome.specs.Outcome.{Ending, Ended, Failed, Open, limit_of, unless_passed, line_outcome, without_return, whole_line, cut_line, last_piece, replayed, companion_for, outcome_of, text_put}
+use Rattle.cg_outcome.specs.Outcome.{Ending, Ended, Failed, Open, limit_of, unless_passed, line_outcome, without_return, whole_line, cut_line, last_piece, replayed, companion_for, looked_at, inspection, outcome_of, text_put}
 use Rattle.cg_outcome.specs.Produced.{Progress, Finding, Produced, before_all, status_of, ended_with, prepend, and_then}
 use Rattle.cg_outcome.specs.declared.status.Limit.{Limit}
 use Rattle.cg_outcome.specs.declared.status.Limit.TheVariants as limit
@@ -18,7 +18,7 @@ use Rattle.cg_outcome.specs.declared.status.Status.{Status}
 use Rattle.cg_outcome.specs.declared.status.Status.TheVariants as status
 use Rattle.cg_outcome.specs.Commands.{reads_input}
 use Rattle.cg_outcome.specs.Putting.{Puts, StopsWith}
-use Rattle.cg_outcome.specs.Taking.{HasCause, IsWithinLimits, Completes, Runs}
+use Rattle.cg_outcome.specs.Taking.{HasCause, IsImage, IsWithinLimits, Completes, Runs}
 use Rattle.cg_outcome.specs.FeedLaws.{some_piece}
 use Rattle.cg_outcome.specs.GoingOnLaws.{and_then-none, and_then-some}
 use Rattle.cg_outcome.specs.StageLaws.{limit-none, none-limit}
@@ -201,6 +201,29 @@ replay-whole c all taken Open old new consumed cause none st is within =
     let found = has-found (replayed 1 0 (pieces_of 10 taken) Open (before_all c)) st is in
     front-whole (pieces_of 10 taken) (pieces_of 10 all) begin 1 0 (before_all c) found.0 found.1 within
 
+-- what was looked at of an image that passes no limit is all of it
+inspection-whole : (all taken : List ℕ) (how : Ending) (old new : SourceView) → Consumes (Some all) new.left taken →
+    HasCause how old new → new.faults ≡ old.faults
+    → (st : Status) → status_of (inspection taken how) ≡ Some st → IsWithinLimits (status_of (inspection all Ended))
+    → inspection taken how ≡ inspection all Ended
+inspection-whole all taken Ended old new consumed cause none st is within =
+    ap (λ bytes. inspection bytes Ended) (sym (all-taken new.left all taken consumed cause.0))
+inspection-whole all taken Failed old new consumed cause none st is within = absurd (omega (arith, cause, none))
+inspection-whole all taken Open old new consumed cause none st is within =
+    absurd (by_limit (nat_lt INPUT_BYTES (length taken)) refl) where
+      front : (r : List ℕ) × (all ≡ taken ++ r)
+      front = front-taken new.left all taken consumed
+
+      long : length all ≡ length taken + length front.0
+      long = ap length front.1 ∙ length-append taken front.0
+
+      by_limit : (b : Bool) → nat_lt INPUT_BYTES (length taken) ≡ b → ⊥
+      by_limit true e =
+          let more : nat_lt INPUT_BYTES (length all) ≡ true =
+          lt-ltb INPUT_BYTES (length all) (let less = ltb-true INPUT_BYTES (length taken) e in omega (arith, long, less)) in
+          rw more at within
+      by_limit false e = let open_ : None ≡ Some st = rw e at is in cc
+
 -- ---- a command
 
 -- all of the text was put, or memory was refused
@@ -219,6 +242,9 @@ command-whole : (c : Option Command) (all taken : List ℕ) (how : Ending) (old 
 command-whole None all taken how old new consumed cause none has st is within = refl
 command-whole (Some (Generate seed replicas lines)) all taken how old new consumed cause none has st is within = refl
 command-whole (Some (Trial seed replicas lines)) all taken how old new consumed cause none has st is within = refl
+command-whole (Some Inspect) all taken how old new consumed cause none has st is within =
+    inspection-whole all taken how old new
+    (subst (λ left. Consumes left new.left taken) (has refl) consumed) cause none st is within
 command-whole other all taken how old new consumed cause none has st is within =
     replay-whole (companion_for other) all taken how old new
     (subst (λ left. Consumes left new.left taken) (has refl) consumed) cause none st is within
@@ -226,10 +252,11 @@ command-whole other all taken how old new consumed cause none has st is within =
 pub Runs-complete : (c : Option Command) (old new : SourceView) (v v' : SinkView) (st : Status) →
     Runs c old new v v' st → Completes c old new v v' st
 Runs-complete c old new v v' st runs all has within none unfailed =
-    elim (all-put (text_put c (outcome_of c runs.taken runs.ending)) (status_of (outcome_of c runs.taken runs.ending)) v
-    v' st runs.ends unfailed) [
+    elim (all-put (text_put c runs.image (outcome_of c runs.taken runs.ending))
+    (status_of (outcome_of c runs.taken runs.ending)) v v' st runs.ends unfailed) [
       | inl refused ↦ inl refused
       | inr put ↦
           let same = command-whole c all runs.taken runs.ending old new runs.consumed runs.cause none has st put.0 within in
-          inr (subst (λ (p : Produced). (status_of p ≡ Some st) × Puts v v' (text_put c p)) same put)
+          inr (subst (λ (p : Produced). (status_of p ≡ Some st) × (image : List ℕ) × IsImage c p st image
+          × Puts v v' (text_put c image p)) same (put.0, runs.image, runs.imaged, put.1))
     ]

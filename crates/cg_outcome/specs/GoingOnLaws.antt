@@ -5,7 +5,7 @@ use Rattle.std.specs.Io.KnownBytes.{Appends}
 use Rattle.cg_io.specs.Outside.{SinkView}
 use Rattle.cg_items.specs.Items.{Item, item_in, report_in}
 use Rattle.cg_items.specs.declared.report.Report.{Report}
-use Rattle.cg_items.specs.declared.report.Report.TheVariants.{Joined}
+use Rattle.cg_items.specs.declared.report.Report.TheVariants.{Joined, Inspected, Imaged}
 use Rattle.cg_outcome.specs.Produced.{Progress, Finding, Produced, tail_in, end_in, with_tail, text_of, status_of, prepend, and_then}
 use Rattle.cg_outcome.specs.declared.status.Status.{Status}
 use Rattle.cg_outcome.specs.declared.status.Status.TheVariants as status
@@ -60,14 +60,18 @@ Shows-twice report v v1 v2 a b first next = record {
   short = short-append a b first.short next.short;
 }
 
--- what a run puts at its end is the tail, unless it tells of logs and is done
-abbrev pub is_joined : Report → Bool
-is_joined Joined = true
-is_joined other = false
+-- what a run puts at its end is the tail, unless it tells of logs, of what is seen in an image, or of none, and is done
+abbrev pub tells_apart : Report → Bool
+tells_apart Joined = true
+tells_apart Inspected = true
+tells_apart Imaged = true
+tells_apart other = false
 
-pub end-tail : (report : Report) (st : Status) (lines : ℕ) (s : Progress) → is_joined report ≡ false →
+pub end-tail : (report : Report) (st : Status) (lines : ℕ) (s : Progress) → tells_apart report ≡ false →
     end_in report st lines s ≡ tail_in report st s.count lines
 end-tail Joined st lines s other = absurd cc
+end-tail Inspected st lines s other = absurd cc
+end-tail Imaged st lines s other = absurd cc
 end-tail report status.Done lines s other = refl
 end-tail report st lines s other = refl
 

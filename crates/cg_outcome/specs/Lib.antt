@@ -5,6 +5,9 @@ pub mod CompleteLaws
 pub mod FeedLaws
 pub mod FurtherLaws
 pub mod GoingOnLaws
+pub mod ImageLaws
+pub mod Inspection
+pub mod InspectionLaws
 pub mod LineLaws
 pub mod NearLaws
 pub mod Outcome

@@ -1,5 +1,5 @@
 -- Where a line is the first finding, no more was taken past its end than is taken at once.
-use Rattle.std.proofs.Common.{◌≡◌, ◌<◌, ◌≤◌, ℕ, zero, suc, ◌+◌, ◌-◌, ◌==◌, List, [], ◌∷◌, ◌++◌, length, take, Option, Some, None, Bool, true, false, cond, refl, sym, ap, subst, ◌∙◌, arith, length-append, append_assoc, inl, inr}
+use Rattle.std.proofs.Common.{◌≡◌, ◌<◌, ◌≤◌, ℕ, zero, suc, ◌+◌, ◌-◌, ◌==◌, nat_lt, List, [], ◌∷◌, ◌++◌, length, take, Option, Some, None, Bool, true, false, cond, refl, sym, ap, subst, ◌∙◌, arith, length-append, append_assoc, inl, inr}
 use Rattle.std.specs.List.{onto_first, join_with_byte}
 use Rattle.std.proofs.lemmas.List.Splits.{join_with_byte-slice_split}
 use Rattle.std.proofs.lemmas.Bool.{cases_lt, cond_both, eqb-true, false≢true, true≢false}
@@ -7,15 +7,19 @@ use Rattle.std.proofs.Math.Seq.{take-append-add}
 use Rattle.cg_base.specs.Text.{pieces_of, is_nil}
 use Rattle.cg_io.specs.Outside.{SourceView, SinkView}
 use Rattle.cg_outcome.specs.declared.command.Command.{Command}
-use Rattle.cg_outcome.specs.declared.command.Command.TheVariants.{Generate, Trial}
+use Rattle.cg_outcome.specs.declared.command.Command.TheVariants.{Generate, Trial, Inspect}
 use Rattle.cg_items.specs.declared.companion.Companion.{Companion}
-use Rattle.cg_outcome.specs.Outcome.{Ending, Ended, Failed, Open, limit_of, unless_passed, line_outcome, whole_line, at_end, cut_line, last_piece, replayed, companion_for, outcome_of, text_put}
+use Rattle.cg_items.specs.declared.companion.Companion.TheVariants.{Alone}
+use Rattle.cg_image.specs.Inspecting.{Inspected, NotAnImage, NotAStore, Holds, inspected}
+use Rattle.cg_outcome.specs.declared.limits.TheConstants.{INPUT_BYTES}
+use Rattle.cg_outcome.specs.declared.status.Limit.TheVariants as limit
+use Rattle.cg_outcome.specs.Outcome.{Ending, Ended, Failed, Open, limit_of, unless_passed, line_outcome, whole_line, at_end, cut_line, last_piece, replayed, companion_for, seen_in, looked_at, inspection, outcome_of, text_put}
 use Rattle.cg_outcome.specs.Produced.{Progress, Finding, Produced, before_all, status_of, ended_with, and_then}
 use Rattle.cg_outcome.specs.declared.status.Limit.{Limit}
 use Rattle.cg_outcome.specs.declared.status.Status.{Status}
 use Rattle.cg_outcome.specs.declared.status.Status.TheVariants as status
 use Rattle.cg_outcome.specs.Commands.{reads_input}
-use Rattle.cg_outcome.specs.Taking.{most_taken, most_at_once, InTime, ShowsShort, Runs, found_in, end_of_line}
+use Rattle.cg_outcome.specs.Taking.{most_taken, most_at_once, InTime, IsImage, ShowsShort, Runs, found_in, end_of_line}
 use Rattle.cg_outcome.specs.Streaming.{IsUnended, OfTaken, Ends}
 use Rattle.cg_outcome.specs.FeedLaws.{line_first, first_unended, some_piece}
 use Rattle.cg_outcome.specs.GoingOnLaws.{and_then-none, and_then-some}
@@ -229,11 +233,12 @@ cut-at (suc n) taken lt = by_pieces (pieces_of 10 taken) refl (λ bytes. cut-at 
 -- ---- the clause
 
 -- a status with a line is what was found
-found-is : (c : Option Command) (p : Produced) (v v' : SinkView) (st : Status) (k : ℕ) → Ends c p v v' st →
+found-is : (c : Option Command) (image : List ℕ) (p : Produced) (v v' : SinkView) (st : Status) (k : ℕ) →
+    Ends c image p v v' st →
     found_in st ≡ Some k → line_of (status_of p) ≡ Some k
-found-is c p v v' status.WriteFault k ended f = absurd (cc)
-found-is c p v v' status.NoMemory k ended f = absurd (cc)
-found-is c p v v' other k ended f = ap line_of ended.0 ∙ f
+found-is c image p v v' status.WriteFault k ended f = absurd (cc)
+found-is c image p v v' status.NoMemory k ended f = absurd (cc)
+found-is c image p v v' other k ended f = ap line_of ended.0 ∙ f
 
 none-found : (p : Produced) (k : ℕ) → line_of (status_of p) ≡ Some k → p.found ≡ None → ⊥
 none-found p k e none =
@@ -252,16 +257,35 @@ replay-near c taken how k e lt none =
     (subst (λ ps. line_of (status_of (replayed 1 0 ps how (before_all c))) ≡ Some k) cut.whole e)
     (subst (λ ps. (replayed 1 0 ps Open (before_all c)).found ≡ None) cut.front none)
 
-pub near : (c : Option Command) (taken : List ℕ) (how : Ending) (v v' : SinkView) (st : Status) →
-    Ends c (outcome_of c taken how) v v' st
-    → InTime (text_put c) (λ front. outcome_of c front Open) taken v v'
-    → (k : ℕ) → found_in st ≡ Some k → length taken ≤ end_of_line k (pieces_of 10 taken) + most_at_once
-near c taken how v v' st ended in_time k f =
+-- what is found in an image is found in no line
+inspection-far : (taken : List ℕ) (how : Ending) (k : ℕ) → 1 ≤ k → line_of (status_of (inspection taken how)) ≡ Some k → ⊥
+inspection-far taken how k first = by_limit (nat_lt INPUT_BYTES (length taken)) where
+  by_seen : (x : Inspected) → line_of (status_of (seen_in x)) ≡ Some k → ⊥
+  by_seen NotAnImage e = cc
+  by_seen NotAStore e = cc
+  by_seen (Holds r) e = cc
+
+  by_ending : (how : Ending) → line_of (status_of (looked_at taken how)) ≡ Some k → ⊥
+  by_ending Ended e = by_seen (inspected taken) e
+  by_ending Failed e = cc
+  by_ending Open e = cc
+
+  by_limit : (b : Bool) →
+      line_of (status_of (cond b (ended_with (status.Limit 0 limit.Input) 0 (before_all Alone)) (looked_at taken how))) ≡
+      Some k → ⊥
+  by_limit true e = let here : 0 ≡ k = cc in omega (arith, here, first)
+  by_limit false e = by_ending how e
+
+pub near : (c : Option Command) (image taken : List ℕ) (how : Ending) (v v' : SinkView) (st : Status) →
+    Ends c image (outcome_of c taken how) v v' st
+    → InTime (text_put c image) (λ front. outcome_of c front Open) taken v v'
+    → (k : ℕ) → 1 ≤ k → found_in st ≡ Some k → length taken ≤ end_of_line k (pieces_of 10 taken) + most_at_once
+near c image taken how v v' st ended in_time k first f =
     elim (cases_lt (end_of_line k (pieces_of 10 taken) + 4096) (length taken)) [
       | inl lt ↦
           let m = end_of_line k (pieces_of 10 taken) in
           let none = (in_time m (omega (arith, lt))).0 in
-          let e = found-is c (outcome_of c taken how) v v' st k ended f in
+          let e = found-is c image (outcome_of c taken how) v v' st k ended f in
           absurd (by_command c e none (omega (arith, lt)))
       | inr le ↦ le
     ] where
@@ -272,34 +296,39 @@ near c taken how v v' st ended in_time k f =
       by_command (Some (Generate seed replicas lines)) e none lt = cc
       by_command (Some (Trial seed replicas lines)) e none lt =
           none-found (outcome_of (Some (Trial seed replicas lines)) taken how) k e none
+      by_command (Some Inspect) e none lt = inspection-far taken how k first e
       by_command other e none lt = replay-near (companion_for other) taken how k e lt none
 
 -- ---- a command
 
-pub Runs-near : (c : Option Command) (old new : SourceView) (v v' : SinkView) (st : Status)
-    → OfTaken old new (λ taken how. (length taken ≤ most_taken) × Ends c (outcome_of c taken how) v v' st
-    × InTime (text_put c) (λ front. outcome_of c front Open) taken v v' × ShowsShort c (outcome_of c taken how) st)
+pub Runs-near : (c : Option Command) (image : List ℕ) (old new : SourceView) (v v' : SinkView) (st : Status)
+    → OfTaken old new (λ taken how. (length taken ≤ most_taken) × IsImage c (outcome_of c taken how) st image
+    × Ends c image (outcome_of c taken how) v v' st
+    × InTime (text_put c image) (λ front. outcome_of c front Open) taken v v' × ShowsShort c (outcome_of c taken how) st)
     → Runs c old new v v' st
-Runs-near c old new v v' st r = record {
+Runs-near c image old new v v' st r = record {
   taken = r.taken;
   ending = r.ending;
   consumed = r.consumed;
   cause = r.cause;
   most = r.holds.0;
-  ends = r.holds.1;
-  in_time = r.holds.2;
-  short = r.holds.3;
-  near = near c r.taken r.ending v v' st r.holds.1 r.holds.2;
+  image = image;
+  imaged = r.holds.1;
+  ends = r.holds.2;
+  in_time = r.holds.3;
+  short = r.holds.4;
+  near = near c image r.taken r.ending v v' st r.holds.2 r.holds.3;
 }
 
 -- a command that reads no input takes nothing
 pub Runs-nothing : (c : Option Command) (old : SourceView) (v v' : SinkView) (st : Status) →
-    reads_input c ≡ false → Ends c (outcome_of c [] Open) v v' st → Runs c old old v v' st
-Runs-nothing c old v v' st none ended =
-    Runs-near c old old v v' st (record {
+    reads_input c ≡ false → IsImage c (outcome_of c [] Open) st [] → Ends c [] (outcome_of c [] Open) v v' st →
+    Runs c old old v v' st
+Runs-nothing c old v v' st none imaged ended =
+    Runs-near c [] old old v v' st (record {
       taken = [];
       ending = Open;
       consumed = Consumes-none old.left;
       cause = refl;
-      holds = (omega arith, ended, λ m lt. absurd (omega (arith, lt)), λ reads. absurd (true≢false (sym reads ∙ none)));
+      holds = (omega arith, imaged, ended, λ m lt. absurd (omega (arith, lt)), λ reads. absurd (true≢false (sym reads ∙ none)));
     })

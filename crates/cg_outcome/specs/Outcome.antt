@@ -16,12 +16,13 @@ use Rattle.cg_outcome.specs.declared.status.Status.TheVariants as status
 use Rattle.cg_outcome.specs.declared.status.Limit.{Limit}
 use Rattle.cg_outcome.specs.declared.status.Limit.TheVariants as limit
 use Rattle.cg_outcome.specs.declared.command.Command.{Command}
-use Rattle.cg_outcome.specs.declared.command.Command.TheVariants.{Replay, Generate, Trial, Follow, Relaxed, Sessions, Compare}
-use Rattle.cg_items.specs.declared.report.Report.TheVariants.{Whole, Joined}
+use Rattle.cg_outcome.specs.declared.command.Command.TheVariants.{Replay, Generate, Trial, Follow, Relaxed, Sessions, Compare, Image, Inspect}
+use Rattle.cg_items.specs.declared.report.Report.TheVariants.{Whole, Joined, Inspected}
 use Rattle.cg_items.specs.declared.companion.Companion.{Companion}
-use Rattle.cg_items.specs.declared.companion.Companion.TheVariants.{Alone, Followers, Relaxed as MadeRows, Sessions as OpenSessions, Comparing}
+use Rattle.cg_items.specs.declared.companion.Companion.TheVariants.{Alone, Followers, Relaxed as MadeRows, Sessions as OpenSessions, Comparing, Imaging}
 use Rattle.cg_items.specs.declared.companion.Further.{Further}
 use Rattle.cg_items.specs.Companion.{further_reading, in_place}
+use Rattle.cg_image.specs.Inspecting.{Inspected as Seen, NotAnImage, NotAStore, Holds, inspected}
 use Rattle.cg_compare.specs.declared.log_line.LogLine.{LogLine}
 use Rattle.cg_compare.specs.declared.log_line.LogLine.TheVariants as log_line
 use Rattle.cg_compare.specs.Lines.{reading as log_reading}
@@ -150,7 +151,23 @@ companion_for (Some Follow) = Followers []
 companion_for (Some Relaxed) = MadeRows []
 companion_for (Some Sessions) = OpenSessions []
 companion_for (Some Compare) = Comparing
+companion_for (Some (Image p)) = Imaging p
 companion_for other = Alone
+
+-- what is seen in all bytes of an input, as an image; and what an inspection comes to, of which these bytes were taken
+abbrev pub seen_in : Seen → Produced
+seen_in NotAnImage = ended_with status.NotAnImage 0 (before_all Alone)
+seen_in NotAStore = ended_with status.NotAStore 0 (before_all Alone)
+seen_in (Holds r) = ended_with status.Done 0 (record (before_all Alone) { replica = Some r })
+
+abbrev pub looked_at : List ℕ → Ending → Produced
+looked_at taken Ended = seen_in (inspected taken)
+looked_at taken Failed = ended_with status.ReadFault 0 (before_all Alone)
+looked_at taken Open = went_on (before_all Alone)
+
+abbrev pub inspection : List ℕ → Ending → Produced
+inspection taken how = if nat_lt INPUT_BYTES (length taken) then ended_with (status.Limit 0 limit.Input) 0 (before_all Alone)
+    else looked_at taken how
 
 -- what a command comes to; without one the run tells how it is used
 abbrev pub outcome_of : Option Command → List ℕ → Ending → Produced
@@ -158,17 +175,28 @@ outcome_of None taken how = ended_with status.Usage 0 (before_all Alone)
 outcome_of (Some (Generate seed replicas lines)) taken how = ended_with status.Done 0 (before_all Alone)
 outcome_of (Some (Trial seed replicas lines)) taken how =
     performed 0 (generated seed replicas lines) (before_all Alone)
+outcome_of (Some Inspect) taken how = inspection taken how
 outcome_of command taken how = replayed 1 0 (pieces_of LINE_FEED taken) how (before_all (companion_for command))
 
 -- the whole run
 abbrev pub outcome : List (List ℕ) → List ℕ → Ending → Produced
 outcome words taken how = outcome_of (command_of words) taken how
 
--- what a command puts of what it comes to
-abbrev pub text_put : Option Command → Produced → List ℕ
-text_put None p = text_of Whole p
-text_put (Some (Replay report)) p = text_of report p
-text_put (Some (Generate seed replicas lines)) p = lines_of (generated seed replicas lines)
-text_put (Some (Trial seed replicas lines)) p = trial_text p
-text_put (Some Compare) p = text_of Joined p
-text_put (Some other) p = text_of Whole p
+-- what a run puts at whose end the image of a disk is put: the image where it is done, else the tail
+abbrev pub image_end : List ℕ → Status → ℕ → ℕ → List ℕ
+image_end image status.Done lines steps = image
+image_end image other lines steps = tail_text other steps lines
+
+abbrev pub imaged_text : List ℕ → Produced → List ℕ
+imaged_text image p = option_map_or (λ f. image_end image f.status f.lines p.progress.count) p.found []
+
+-- what a command puts of what it comes to, where it is the image of a disk that it puts this one
+abbrev pub text_put : Option Command → List ℕ → Produced → List ℕ
+text_put None image p = text_of Whole p
+text_put (Some (Replay report)) image p = text_of report p
+text_put (Some (Generate seed replicas lines)) image p = lines_of (generated seed replicas lines)
+text_put (Some (Trial seed replicas lines)) image p = trial_text p
+text_put (Some Compare) image p = text_of Joined p
+text_put (Some Inspect) image p = text_of Inspected p
+text_put (Some (Image q)) image p = imaged_text image p
+text_put (Some other) image p = text_of Whole p

@@ -16,13 +16,15 @@ use Rattle.cg_json.specs.JsonText.{tail_json}
 use Rattle.cg_compare.specs.declared.log.Log.{Log}
 use Rattle.cg_compare.specs.Join.{join_logs}
 use Rattle.cg_compare.specs.JoinText.{joined_text}
+use Rattle.cg_client.specs.Replica.{Replica}
+use Rattle.cg_image.specs.Inspecting.{replica_text}
 use Rattle.cg_items.specs.declared.companion.Companion.{Companion}
 use Rattle.cg_items.specs.declared.companion.Further.{Further}
 use Rattle.cg_items.specs.Companion.{Noted, acts, event_of, follows, further_refusal}
 use Rattle.cg_items.specs.Items.{Item, report_in}
 use Rattle.cg_items.specs.Refused.{Refused, OfEvent, OfFurther}
 use Rattle.cg_items.specs.declared.report.Report.{Report}
-use Rattle.cg_items.specs.declared.report.Report.TheVariants.{Json, Joined}
+use Rattle.cg_items.specs.declared.report.Report.TheVariants.{Json, Joined, Inspected, Imaged}
 use Rattle.cg_outcome.specs.declared.status.Status.{Status}
 use Rattle.cg_outcome.specs.declared.status.Status.TheVariants as status
 use Rattle.cg_outcome.specs.declared.status.Limit.TheVariants.{Steps}
@@ -31,7 +33,7 @@ use Rattle.cg_outcome.specs.Status.{tail_line, tail_text}
 use Rattle.cg_outcome.specs.Totals.{no_totals, with_entry}
 
 -- how far a run has come: the world, what its command keeps beside it, what the reader has read, how many items were made,
--- what they have shown, and the logs that were read
+-- what they have shown, the logs that were read, and the replica that was seen in an image
 pub record Progress : Type 0 where
   pub world : World
   pub companion : Companion
@@ -39,6 +41,7 @@ pub record Progress : Type 0 where
   pub count : ℕ
   pub totals : Totals
   pub logs : List Log
+  pub replica : Option Replica
 
 -- what ends a run: its status, the whole lines gone through, and the refusal, where it is one
 pub record Finding : Type 0 where
@@ -54,8 +57,15 @@ pub record Produced : Type 0 where
 
 -- before the first line, with this beside the world
 abbrev pub before_all : Companion → Progress
-before_all c =
-    record { world = no_world; companion = c; reader = first_state; count = 0; totals = no_totals; logs = [] }
+before_all c = record {
+  world = no_world;
+  companion = c;
+  reader = first_state;
+  count = 0;
+  totals = no_totals;
+  logs = [];
+  replica = None;
+}
 
 -- the tail of a report
 abbrev pub tail_in : Report → Status → ℕ → ℕ → List ℕ
@@ -66,9 +76,11 @@ tail_in other status steps lines = tail_text status steps lines
 abbrev pub logs_text : List Log → List ℕ
 logs_text logs = joined_text (join_logs logs) ++ LINE_FEED ∷ []
 
--- what a run puts at its end: the tail, but for what its logs come to, where it is done
+-- what a run puts at its end: the tail, but for what its logs come to, what is seen in an image, or nothing, where it is done
 abbrev pub done_in : Report → ℕ → Progress → List ℕ
 done_in Joined lines s = logs_text s.logs
+done_in Inspected lines s = option_map_or replica_text s.replica []
+done_in Imaged lines s = []
 done_in report lines s = tail_in report status.Done s.count lines
 
 abbrev pub end_in : Report → Status → ℕ → Progress → List ℕ

@@ -7,11 +7,10 @@ use Rattle.cg_schedule.specs.declared.reader_state.ReaderState.{ReaderState}
 use Rattle.cg_schedule.specs.Line.{first_state, reading, state_behind}
 use Rattle.cg_schedule.specs.Laws.{Reads}
 use Rattle.cg_model.specs.World.{no_world}
-use Rattle.cg_model.specs.Admission.{first_refusal}
 use Rattle.cg_model.specs.Run.{Step, world_after}
 use Rattle.cg_items.specs.declared.companion.Companion.{Companion}
 use Rattle.cg_items.specs.declared.companion.Further.{Further}
-use Rattle.cg_items.specs.Companion.{further_reading, in_place, further_refusal}
+use Rattle.cg_items.specs.Companion.{further_reading, in_place, further_refusal, refusal_for}
 use Rattle.cg_items.specs.Items.{Item, steps_of}
 use Rattle.cg_items.specs.Kept.{kept_behind}
 use Rattle.cg_outcome.specs.Outcome.{without_return}
@@ -20,9 +19,10 @@ use Rattle.cg_outcome.specs.Outcome.{without_return}
 abbrev pub state_past_lines : ReaderState → List (List ℕ) → ReaderState
 state_past_lines state lines = fold (λ state line. state_behind state (reading state (without_return line))) state lines
 
--- Line n of these pieces reads, behind the lines before it, as an event that isn't admitted in the world behind the steps, first for this reason.
+-- Line n of these pieces reads, behind the lines before it, as an event that isn't admitted in a run of the command, in the world
+-- behind the steps, first for this reason.
 -- Its carriage return goes only where its line feed is there.
-pub record RefusesLine (pieces : List (List ℕ)) (steps : List Step) (n : ℕ) (reason : Reason) : Type 0 where
+pub record RefusesLine (c : Companion) (pieces : List (List ℕ)) (steps : List Step) (n : ℕ) (reason : Reason) : Type 0 where
   pub before : List (List ℕ)
   pub line : List ℕ
   pub behind : List (List ℕ)
@@ -30,7 +30,7 @@ pub record RefusesLine (pieces : List (List ℕ)) (steps : List Step) (n : ℕ) 
   pub numbered : n ≡ suc (length before)
   pub event : Event
   pub reads : Reads (state_past_lines first_state before) (if is_nil behind then line else without_return line) event
-  pub refused : first_refusal (world_after no_world steps) event ≡ Some reason
+  pub refused : refusal_for c (world_after no_world steps) event ≡ Some reason
 
 -- Line n reads there as one of the command's own events, with this kept before the first line, and that event isn't
 -- admitted behind the items, first for this reason.

@@ -1,10 +1,13 @@
--- What the event of a line comes to: one step, or the passes that it asks for; the end is no step.
-use Rattle.std.specs.Prelude.{ℕ, zero, suc, ◌==◌, List, [], ◌∷◌, None, if◌then◌else◌}
+-- What the event of a line comes to: one step, or the passes that it asks for; the end is no step, and may be refused.
+use Rattle.std.specs.Prelude.{ℕ, zero, suc, ◌==◌, List, [], ◌∷◌, Option, None, Some, if◌then◌else◌}
 use Rattle.cg_group.specs.Ready.{ready}
+use Rattle.cg_group.specs.declared.reason.Reason.{Reason}
+use Rattle.cg_items.specs.Companion.{end_refusal}
+use Rattle.cg_outcome.specs.declared.status.Status.TheVariants.{Refused}
 use Rattle.cg_schedule.specs.declared.event.Event.{Event}
 use Rattle.cg_schedule.specs.declared.event.Event.TheVariants.{Gather, Deliver, Rounds, End}
 use Rattle.cg_model.specs.World.{up_replicas}
-use Rattle.cg_outcome.specs.Produced.{Progress, Produced, went_on, and_then, one_step}
+use Rattle.cg_outcome.specs.Produced.{Progress, Produced, went_on, ended_with, and_then, one_step}
 
 -- what is ready at a replica is handed to it
 abbrev pub deliver_ready : ℕ → ℕ → Progress → Produced
@@ -25,8 +28,13 @@ abbrev pub passes : ℕ → ℕ → Progress → Produced
 passes n zero s = went_on s
 passes n (suc count) s = and_then (one_pass n s) (passes n count)
 
+-- the end, where it is admitted
+abbrev pub ended_unless : Option Reason → ℕ → Progress → Produced
+ended_unless None n s = went_on s
+ended_unless (Some reason) n s = ended_with (Refused n reason) n s
+
 -- the event of line n happens
 unfoldable pub happened : ℕ → Event → Progress → Produced
-happened n End s = went_on s
+happened n End s = ended_unless (end_refusal s.companion s.world) n s
 happened n (Rounds count) s = passes n count s
 happened n other s = one_step n None other s

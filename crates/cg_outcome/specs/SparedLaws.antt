@@ -1,5 +1,5 @@
 -- A run says that its input failed only where the taking ended so, and that its output failed only where a put did.
-use Rattle.std.proofs.Common.{◌≡◌, ℕ, zero, suc, ◌+◌, ◌==◌, ◌-◌, nat_lt, List, [], ◌∷◌, Bool, true, false, length, Option, Some, None, refl, sym, ap, subst, ◌∙◌, Result, Ok, Err}
+use Rattle.std.proofs.Common.{◌≡◌, ℕ, zero, suc, ◌+◌, ◌==◌, ◌-◌, nat_lt, List, [], ◌∷◌, Bool, true, false, cond, length, Option, Some, None, refl, sym, ap, subst, ◌∙◌, Result, Ok, Err}
 use Rattle.std.specs.Option.{option_map_or}
 use Rattle.std.proofs.lemmas.Bool.{false≢true, eq-eqb, cond_both}
 use Rattle.cg_base.specs.Text.{pieces_of}
@@ -16,14 +16,16 @@ use Rattle.cg_model.specs.World.{up_replicas}
 use Rattle.cg_model.specs.Admission.{first_refusal}
 use Rattle.cg_model.specs.Step.{world_step}
 use Rattle.cg_model.specs.Run.{Step, step_limit}
-use Rattle.cg_outcome.specs.Outcome.{Ending, Ended, Failed, Open, performed, unreadable, read_outcome, further_outcome, log_outcome, line_beside, line_outcome, without_return, limit_of, unless_passed, whole_line, at_end, cut_line, last_piece, replayed, companion_for, outcome_of}
+use Rattle.cg_outcome.specs.Outcome.{Ending, Ended, Failed, Open, performed, unreadable, read_outcome, further_outcome, log_outcome, line_beside, line_outcome, without_return, limit_of, unless_passed, whole_line, at_end, cut_line, last_piece, replayed, companion_for, seen_in, looked_at, inspection, outcome_of}
 use Rattle.cg_outcome.specs.declared.command.Command.{Command}
-use Rattle.cg_outcome.specs.declared.command.Command.TheVariants.{Generate, Trial}
+use Rattle.cg_outcome.specs.declared.command.Command.TheVariants.{Generate, Trial, Inspect}
 use Rattle.cg_items.specs.declared.companion.Companion.{Companion}
 use Rattle.cg_items.specs.declared.companion.Companion.TheVariants.{Alone, Comparing}
 use Rattle.cg_items.specs.declared.companion.Further.{Further}
-use Rattle.cg_items.specs.Companion.{Noted, further_reading, in_place, further_refusal, event_of, acts, follows}
+use Rattle.cg_items.specs.Companion.{Noted, further_reading, in_place, further_refusal, end_refusal, event_of, acts, follows}
 use Rattle.cg_items.specs.Items.{Item}
+use Rattle.cg_image.specs.Inspecting.{Inspected, NotAnImage, NotAStore, Holds, inspected}
+use Rattle.cg_outcome.specs.declared.limits.TheConstants.{INPUT_BYTES}
 use Rattle.cg_compare.specs.declared.log_line.LogLine.{LogLine}
 use Rattle.cg_compare.specs.declared.log_line.LogLine.TheVariants as log_line
 use Rattle.cg_compare.specs.Lines.{reading as log_reading}
@@ -33,8 +35,8 @@ use Rattle.cg_gen.specs.Generated.{generated}
 use Rattle.cg_outcome.specs.declared.status.Status.{Status}
 use Rattle.cg_outcome.specs.declared.status.Status.TheVariants as status
 use Rattle.cg_outcome.specs.declared.status.Limit.{Limit}
-use Rattle.cg_outcome.specs.declared.status.Limit.TheVariants.{Steps}
-use Rattle.cg_outcome.specs.Rounds.{deliver_ready, deliveries, one_pass, passes, happened}
+use Rattle.cg_outcome.specs.declared.status.Limit.TheVariants.{Steps, Input}
+use Rattle.cg_outcome.specs.Rounds.{deliver_ready, deliveries, one_pass, passes, ended_unless, happened}
 use Rattle.cg_outcome.specs.Taking.{HasCause, ReadCause}
 use Rattle.cg_outcome.specs.Streaming.{FailedIsLast, Ends}
 
@@ -133,7 +135,10 @@ IsInLine-passes n (suc count) s =
 
 IsInLine-happened : (n : ℕ) (event : Event) (s : Progress) → IsInLine n (happened n event s)
 unfolding happened
-IsInLine-happened n End s = refl
+IsInLine-happened n End s = by_refusal (end_refusal s.companion s.world) where
+  by_refusal : (o : Option Reason) → IsInLine n (ended_unless o n s)
+  by_refusal None = refl
+  by_refusal (Some reason) = same n
 IsInLine-happened n (Rounds count) s = IsInLine-passes n count s
 IsInLine-happened n other s = IsInLine-one_step n None other s
 
@@ -253,8 +258,54 @@ module _ (how : Ending) (not_failed : how ≡ Failed → ⊥) where
   Spares-outcome (Some (Generate seed replicas lines)) taken = λ e. cc
   Spares-outcome (Some (Trial seed replicas lines)) taken =
       Spares-performed 0 (generated seed replicas lines) (before_all Alone)
+  Spares-outcome (Some Inspect) taken = by_limit (nat_lt INPUT_BYTES (length taken)) where
+    by_seen : (x : Inspected) → Spares (seen_in x)
+    by_seen NotAnImage = λ e. cc
+    by_seen NotAStore = λ e. cc
+    by_seen (Holds r) = λ e. cc
+
+    by_ending : (h : Ending) → how ≡ h → Spares (looked_at taken h)
+    by_ending Ended e = by_seen (inspected taken)
+    by_ending Failed e = absurd (not_failed e)
+    by_ending Open e = λ e. cc
+
+    by_limit : (b : Bool) →
+        Spares (cond b (ended_with (status.Limit 0 Input) 0 (before_all Alone)) (looked_at taken how))
+    by_limit true = λ e. cc
+    by_limit false = by_ending how refl
   Spares-outcome other taken =
       Spares-replayed how not_failed 1 0 (pieces_of 10 taken) (before_all (companion_for other))
+
+-- ---- what is gone through before the taking has ended isn't done
+
+abbrev Undone : Produced → Type 0
+Undone p = status_of p ≡ Some status.Done → ⊥
+
+pub Undone-in_line : (n : ℕ) (p : Produced) → IsInLine n p → Undone p
+Undone-in_line n p is =
+    λ e. absurd (let clash : true ≡ false = ap is_of_end (sym e) ∙ no_end n (status_of p) is in cc)
+
+Undone-and_then : (p : Produced) (more : Progress → Produced) → Undone p → ((s : Progress) → Undone (more s)) →
+    Undone (and_then p more)
+Undone-and_then p more first next = by_finding p.found refl where
+  by_finding : (o : Option Finding) → p.found ≡ o → Undone (and_then p more)
+  by_finding None e = rw e (next p.progress)
+  by_finding (Some f) e = let same : and_then p more ≡ p = rw e refl in rw same first
+
+Undone-last : (n at : ℕ) (rest : List ℕ) (s : Progress) → Undone (last_piece n at rest Open s)
+Undone-last n at [] s = λ e. cc
+Undone-last n at (b ∷ bs) s = by_limit (limit_of n (length (b ∷ bs)) (at + length (b ∷ bs))) where
+  by_limit : (o : Option Limit) → Undone (unless_passed o n s (cut_line n (b ∷ bs) Open s))
+  by_limit None = λ e. cc
+  by_limit (Some what) = λ e. cc
+
+pub Undone-open : (n at : ℕ) (lines : List (List ℕ)) (s : Progress) → Undone (replayed n at lines Open s)
+Undone-open n at [] s = λ e. cc
+Undone-open n at (rest ∷ []) s = Undone-last n at rest s
+Undone-open n at (line ∷ next ∷ more) s =
+    Undone-and_then (whole_line n at line s) (λ s'. replayed (n + 1) (at + length line + 1) (next ∷ more) Open s')
+    (Undone-in_line n (whole_line n at line s) (IsInLine-whole n at line s))
+    (λ s'. Undone-open (n + 1) (at + length line + 1) (next ∷ more) s')
 
 -- no take failed where the taking ended in another way
 none-failed : (how : Ending) (old new : SourceView) → HasCause how old new →
@@ -273,34 +324,40 @@ not-read s apart o read is = apart (same (sym read ∙ is)) where
   same e = cc
 
 -- the status tells of a failed take where one failed
-pub read-cause : (c : Option Command) (taken : List ℕ) (how : Ending) (old new : SourceView) (v
+pub read-cause : (c : Option Command) (image taken : List ℕ) (how : Ending) (old new : SourceView) (v
     v' : SinkView) (st : Status)
     → HasCause how old new → FailedIsLast how (outcome_of c taken how) →
-    Ends c (outcome_of c taken how) v v' st → ReadCause old new st
-read-cause c taken Failed old new v v' status.ReadFault cause last stopped = cause
-read-cause c taken Ended old new v v' status.ReadFault cause last stopped =
+    Ends c image (outcome_of c taken how) v v' st → ReadCause old new st
+read-cause c image taken Failed old new v v' status.ReadFault cause last stopped = cause
+read-cause c image taken Ended old new v v' status.ReadFault cause last stopped =
     absurd (Spares-outcome Ended (λ e. cc) c taken stopped.0)
-read-cause c taken Open old new v v' status.ReadFault cause last stopped =
+read-cause c image taken Open old new v v' status.ReadFault cause last stopped =
     absurd (Spares-outcome Open (λ e. cc) c taken stopped.0)
-read-cause c taken how old new v v' status.WriteFault cause last stopped = tt
-read-cause c taken how old new v v' status.NoMemory cause last stopped = tt
-read-cause c taken how old new v v' status.Done cause last stopped =
+read-cause c image taken how old new v v' status.WriteFault cause last stopped = tt
+read-cause c image taken how old new v v' status.NoMemory cause last stopped = tt
+read-cause c image taken how old new v v' status.Done cause last stopped =
     none-failed how old new
     cause (λ e. not-read status.Done (λ f. cc) (status_of (outcome_of c taken how)) (last e) stopped.0)
-read-cause c taken how old new v v' status.Usage cause last stopped =
+read-cause c image taken how old new v v' status.NotAnImage cause last stopped =
+    none-failed how old new
+    cause (λ e. not-read status.NotAnImage (λ f. cc) (status_of (outcome_of c taken how)) (last e) stopped.0)
+read-cause c image taken how old new v v' status.NotAStore cause last stopped =
+    none-failed how old new
+    cause (λ e. not-read status.NotAStore (λ f. cc) (status_of (outcome_of c taken how)) (last e) stopped.0)
+read-cause c image taken how old new v v' status.Usage cause last stopped =
     none-failed how old new
     cause (λ e. not-read status.Usage (λ f. cc) (status_of (outcome_of c taken how)) (last e) stopped.0)
-read-cause c taken how old new v v' (status.Syntax line reason) cause last stopped =
+read-cause c image taken how old new v v' (status.Syntax line reason) cause last stopped =
     none-failed how old new
     cause (λ e. not-read (status.Syntax line reason) (λ f. cc)
     (status_of (outcome_of c taken how)) (last e) stopped.0)
-read-cause c taken how old new v v' (status.Refused line reason) cause last stopped =
+read-cause c image taken how old new v v' (status.Refused line reason) cause last stopped =
     none-failed how old new
     cause (λ e. not-read (status.Refused line reason) (λ f. cc)
     (status_of (outcome_of c taken how)) (last e) stopped.0)
-read-cause c taken how old new v v' (status.Limit line what) cause last stopped =
+read-cause c image taken how old new v v' (status.Limit line what) cause last stopped =
     none-failed how old new
     cause (λ e. not-read (status.Limit line what) (λ f. cc) (status_of (outcome_of c taken how)) (last e) stopped.0)
-read-cause c taken how old new v v' (status.NoEnd lines) cause last stopped =
+read-cause c image taken how old new v v' (status.NoEnd lines) cause last stopped =
     none-failed how old new
     cause (λ e. not-read (status.NoEnd lines) (λ f. cc) (status_of (outcome_of c taken how)) (last e) stopped.0)

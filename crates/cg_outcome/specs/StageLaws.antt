@@ -79,6 +79,13 @@ last-open : (n at : ℕ) (held : List ℕ) (s : Progress) → held_limit n at he
 last-open n at [] s none = refl
 last-open n at (b ∷ bs) s none = rw none refl
 
+-- the end of an input changes nothing of how far the run has come
+pub at_end-stays : (n : ℕ) (s : Progress) → (at_end n Ended s).progress ≡ s
+at_end-stays n s = by_end s.reader.ended where
+  by_end : (b : Bool) → (cond b (ended_with status.Done n s) (ended_with (status.NoEnd n) n s)).progress ≡ s
+  by_end true = refl
+  by_end false = refl
+
 pub last-empty : (n at : ℕ) (held : List ℕ) (s : Progress) → length held ≡ 0 →
     last_piece n at held Ended s ≡ at_end (n - 1) Ended s
 last-empty n at [] s none = refl

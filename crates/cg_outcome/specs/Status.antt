@@ -30,12 +30,14 @@ abbrev pub tail_line : Status → ℕ → ℕ → List ℕ
 tail_line status.Done steps lines = codes "end " ++ decimal steps
 tail_line status.Usage steps lines =
     codes "usage: congruity replay | check | generate SEED REPLICAS LINES | trial SEED REPLICAS LINES"
-    ++ codes " | follow | relaxed | sessions | compare | json"
+    ++ codes " | follow | relaxed | sessions | compare | image P | inspect | json"
 tail_line (status.Syntax line reason) steps lines = codes "syntax " ++ decimal line ++ codes " " ++ decimal reason
 tail_line (status.Refused line reason) steps lines = codes "refused " ++ decimal line ++ refused_text reason
 tail_line status.ReadFault steps lines = codes "read fault " ++ decimal lines
 tail_line (status.Limit line what) steps lines = codes "limit " ++ decimal line ++ codes " " ++ limit_text what
 tail_line (status.NoEnd all) steps lines = codes "no end " ++ decimal all
+tail_line status.NotAnImage steps lines = codes "not an image"
+tail_line status.NotAStore steps lines = codes "not a store"
 tail_line other steps lines = []
 
 abbrev pub tail_text : Status → ℕ → ℕ → List ℕ

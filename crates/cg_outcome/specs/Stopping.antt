@@ -1,11 +1,13 @@
 -- What putting a part of a run comes to: it was cut short, the run has ended, or it goes on with the rest.
-use Rattle.std.specs.Prelude.{◌≡◌, ℕ, List, ⊤}
+use Rattle.std.specs.Prelude.{◌≡◌, ℕ, List, ⊤, Option, Some}
 use Rattle.cg_io.specs.Outside.{SinkView, PutsAll}
 use Rattle.cg_base.specs.Lists.{Each}
 use Rattle.cg_short.specs.Short.{IsShortEntry}
 use Rattle.cg_items.specs.Items.{Item, entry_of, report_in}
 use Rattle.cg_outcome.specs.Produced.{Produced, prepend, text_of, status_of}
 use Rattle.cg_items.specs.declared.report.Report.{Report}
+use Rattle.cg_items.specs.declared.report.Report.TheVariants.{Imaged}
+use Rattle.cg_model.specs.World.{World}
 use Rattle.cg_outcome.specs.declared.status.Status.{Status}
 use Rattle.cg_outcome.specs.declared.status.Status.TheVariants as status
 use Rattle.cg_outcome.specs.Putting.{PutsPart, StopsWith}
@@ -40,6 +42,11 @@ pub record Shows (report : Report) (old new : SinkView) (items : List Item) : Ty
 -- the same of a part that ends the run, unless putting was cut short
 abbrev pub EndsShort : Produced → Status → Type 0
 EndsShort p status = IsFinding status → AllShort p.items
+
+-- a run that is done leaves the world at its end, where the image of a disk is to be put of it
+abbrev pub Leaves : Status → Report → World → Option World → Type 0
+Leaves status.Done Imaged w left = left ≡ Some w
+Leaves st report w left = Unit {0}
 
 -- the run has ended with this status in a part of it
 abbrev pub Stopped : Report → Produced → SinkView → SinkView → Status → Type 0

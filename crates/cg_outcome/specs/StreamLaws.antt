@@ -11,6 +11,9 @@ use Rattle.cg_items.specs.declared.companion.Companion.{Companion}
 use Rattle.cg_items.specs.Items.{Item, report_in}
 use Rattle.cg_outcome.specs.Outcome.{Ending, Ended, Failed, Open}
 use Rattle.cg_items.specs.declared.report.Report.{Report}
+use Rattle.cg_items.specs.declared.report.Report.TheVariants.{Imaged}
+use Rattle.cg_base.specs.Text.{pieces_of}
+use Rattle.cg_model.specs.World.{World}
 use Rattle.cg_outcome.specs.Streaming.{Stage, first_stage, from_stage, IsStage, IsHeld, IsMade, Passes, TakesUp, FailedIsLast, BetweenTakes, TakesTurn, Replays}
 use Rattle.cg_outcome.specs.declared.status.Status.{Status}
 use Rattle.cg_outcome.specs.declared.status.Status.TheVariants as status
@@ -19,7 +22,9 @@ use Rattle.cg_outcome.specs.Taking.{HasCause, InTime}
 use Rattle.cg_outcome.specs.GoingOnLaws.{GoesOn-stop, Shows-none, Shows-twice, Appends-twice, report_in-append}
 use Rattle.cg_outcome.specs.StageLaws.{Passes-none, Passes-twice, front-held, held-within, held-went_on, from-held, last-failed}
 use Rattle.cg_outcome.specs.TakeLaws.{Consumes-none, Consumes-twice}
-use Rattle.cg_outcome.specs.Stopping.{Shows, Stopped, GoesOn}
+use Rattle.cg_outcome.specs.Putting.{StopsWith}
+use Rattle.cg_outcome.specs.SparedLaws.{Undone-open}
+use Rattle.cg_outcome.specs.Stopping.{Leaves, Shows, Stopped, GoesOn}
 
 -- all but what is held was gone through, and what it comes to was put
 pub record Streams (report : Report) (c : Companion) (old now : SourceView) (v v1 : SinkView) (held : List ℕ)
@@ -74,11 +79,11 @@ reached c st gone held made passes is m le = elim (cases_lt (length gone) m) [
 ]
 
 -- something more was put where a run ended
-grown : (report : Report) (p : Produced) (v v' : SinkView) (st : Status) → Stopped report p v v' st →
+pub grown : (text : List ℕ) (found : Option Status) (v v' : SinkView) (st : Status) → StopsWith text found v v' st →
     (r : List ℕ) × Appends v.held v'.held r
-grown report p v v' status.WriteFault s = (s.0.front.front, s.0.front.grown)
-grown report p v v' status.NoMemory s = (s.0.front.front, s.0.front.grown)
-grown report p v v' other s = (text_of report p, s.0.1.all)
+grown text found v v' status.WriteFault s = (s.front.front, s.front.grown)
+grown text found v v' status.NoMemory s = (s.front.front, s.front.grown)
+grown text found v v' other s = (text, s.1.all)
 
 -- what was made was put, whatever was put behind it
 made-put : (report : Report) (p : Produced) (made : List Item) (v v1 v2 : SinkView) (r : List ℕ) → IsMade p made →
@@ -103,10 +108,11 @@ later-cause Ended old now new same cause = (cause.0, cause.1 ∙ same)
 later-cause Failed old now new same cause = cause ∙ ap (λ n. n + 1) same
 later-cause Open old now new same cause = cause ∙ same
 
-module _ (report : Report) (c : Companion) (old : SourceView) (v : SinkView) (before after : BetweenTakes) (st : Stage)
+module _ (report : Report) (c : Companion) (old : SourceView) (v : SinkView) (before after : BetweenTakes)
+    (left : Option World) (st : Stage)
     (s : Streams report c old before.input v before.output before.held st) where
   -- a turn after which the run goes on
-  pub Streams-turn : (next : Stage) → TakesTurn report st before after (Ok next) →
+  pub Streams-turn : (next : Stage) → TakesTurn report st before after left (Ok next) →
       Streams report c old after.input v after.output after.held next
   Streams-turn next t =
       let g = t.comes.2 in
@@ -127,7 +133,7 @@ module _ (report : Report) (c : Companion) (old : SourceView) (v : SinkView) (be
       }
 
   -- and in which less is left to be taken
-  pub turn-smaller : (next : Stage) → TakesTurn report st before after (Ok next)
+  pub turn-smaller : (next : Stage) → TakesTurn report st before after left (Ok next)
       → suc INPUT_BYTES - (next.at + length after.held) < suc INPUT_BYTES - (st.at + length before.held)
   turn-smaller next t =
       let g = t.comes.2 in
@@ -143,8 +149,8 @@ module _ (report : Report) (c : Companion) (old : SourceView) (v : SinkView) (be
       )
 
   -- a turn in which the run ends
-  pub Streams-stop : (status : Status) → TakesTurn report st before after (Err status) →
-      Replays report c old after.input v after.output status
+  pub Streams-stop : (status : Status) → TakesTurn report st before after left (Err status) →
+      Replays report c old after.input v after.output left status
   Streams-stop status t =
       let taken = (s.gone ++ before.held) ++ t.chunk in
       let some = length-append s.gone before.held in
@@ -157,8 +163,8 @@ module _ (report : Report) (c : Companion) (old : SourceView) (v : SinkView) (be
         same = ap (λ b. from_stage (first_stage c) b t.ending) (append_assoc s.gone before.held t.chunk)
             ∙ s.passes.same (before.held ++ t.chunk) t.ending;
       } in
-      let more = grown report (from_stage st (before.held ++ t.chunk) t.ending) before.output
-      after.output status t.comes in
+      let rest = from_stage st (before.held ++ t.chunk) t.ending in
+      let more = grown (text_of report rest) (status_of rest) before.output after.output status t.comes.0.0 in
       let in_time : InTime (text_of report) (λ front. from_stage (first_stage c) front Open) taken v after.output =
       λ m lt.
       let le : m ≤ length s.gone + length before.held = omega (arith, lt, some, all, t.few) in
@@ -180,27 +186,35 @@ module _ (report : Report) (c : Companion) (old : SourceView) (v : SinkView) (be
         holds = (
           omega (arith, some, all, s.passes.placed, t.within),
           GoesOn-stop report (from_stage (first_stage c) taken t.ending)
-              (from_stage st (before.held ++ t.chunk) t.ending) v before.output after.output status goes t.comes,
+              (from_stage st (before.held ++ t.chunk) t.ending) v before.output after.output status goes t.comes.0,
           in_time,
           λ e. ap status_of goes.same ∙ t.last e,
+          subst (λ (p : Produced). Leaves status report p.progress.world left) (sym goes.same) t.comes.1,
         );
       }
 
 -- ---- one turn
 
-Keeps-consumes : (h h' : Option (List ℕ)) → Keeps h h' → Consumes h h' []
+pub Keeps-consumes : (h h' : Option (List ℕ)) → Keeps h h' → Consumes h h' []
 Keeps-consumes None h' k = tt
 Keeps-consumes (Some xs) None k = absurd k
 Keeps-consumes (Some xs) (Some ys) k = sym k
 
+-- a run that isn't done leaves nothing
+pub undone-leaves : (report : Report) (p : Produced) (v v' : SinkView) (st : Status) (w : World) (left : Option World) →
+    (status_of p ≡ Some status.Done → ⊥) → Stopped report p v v' st → Leaves st report w left
+undone-leaves Imaged p v v' status.Done w left undone stopped = absurd (undone stopped.0.0)
+undone-leaves report p v v' status.Done w left undone stopped = tt
+undone-leaves report p v v' st w left undone stopped = tt
+
 -- a chunk was taken, and is taken up
-pub turn-goes : (report : Report) (st : Stage) (before after : BetweenTakes) (r : Result Stage Status) (chunk : List ℕ)
+pub turn-goes : (report : Report) (st : Stage) (before after : BetweenTakes) (left : Option World) (r : Result Stage Status) (chunk : List ℕ)
     → Consumes before.input.left after.input.left chunk → after.input.faults ≡ before.input.faults →
     0 < length chunk → length chunk ≤ 4096
     → st.at + length before.held + length chunk ≤ suc INPUT_BYTES →
     TakesUp report st (before.held ++ chunk) before.output after.output after.held r
-    → TakesTurn report st before after r
-turn-goes report st before after (Ok next) chunk consumed none some few within up =
+    → TakesTurn report st before after left r
+turn-goes report st before after left (Ok next) chunk consumed none some few within up =
     record {
       chunk = chunk;
       ending = Open;
@@ -211,7 +225,7 @@ turn-goes report st before after (Ok next) chunk consumed none some few within u
       last = λ e. absurd cc;
       comes = (some, none, up.0, up.1);
     }
-turn-goes report st before after (Err status) chunk consumed none some few within up =
+turn-goes report st before after left (Err status) chunk consumed none some few within up =
     record {
       chunk = chunk;
       ending = Open;
@@ -220,17 +234,23 @@ turn-goes report st before after (Err status) chunk consumed none some few withi
       few = few;
       within = within;
       last = λ e. absurd cc;
-      comes = up;
+      comes = (
+        up,
+        undone-leaves report (from_stage st (before.held ++ chunk) Open) before.output after.output status
+            (from_stage st (before.held ++ chunk) Open).progress.world left
+            (Undone-open st.line st.at (pieces_of 10 (before.held ++ chunk)) st.progress) up,
+      );
     }
 
 -- a turn in which nothing was taken, and the run ended
-pub turn-ended : (report : Report) (st : Stage) (how : Ending) (before after : BetweenTakes) (r : Status)
+pub turn-ended : (report : Report) (st : Stage) (how : Ending) (before after : BetweenTakes) (left : Option World) (r : Status)
     → IsStage st → IsHeld st before.held → Consumes before.input.left after.input.left [] →
     HasCause how before.input after.input
     → FailedIsLast how (from_stage st before.held how) →
-    Stopped report (from_stage st before.held how) before.output after.output r
-    → TakesTurn report st before after (Err r)
-turn-ended report st how before after r stands is consumed cause last stopped =
+    Stopped report (from_stage st before.held how) before.output after.output r →
+    Leaves r report (from_stage st before.held how).progress.world left
+    → TakesTurn report st before after left (Err r)
+turn-ended report st how before after left r stands is consumed cause last stopped leaves =
     let within = held-within st.line st.at before.held stands.within is.unpassed in
     record {
       chunk = [];
@@ -240,17 +260,28 @@ turn-ended report st how before after r stands is consumed cause last stopped =
       few = omega arith;
       within = omega (arith, within.1);
       last = subst (λ bytes. FailedIsLast how (from_stage st bytes how)) (sym (append-nil before.held)) last;
-      comes = subst (λ bytes. Stopped report (from_stage st bytes how) before.output after.output r)
-          (sym (append-nil before.held)) stopped;
+      comes = subst (λ bytes. Stopped report (from_stage st bytes how) before.output after.output r
+          × Leaves r report (from_stage st bytes how).progress.world left)
+          (sym (append-nil before.held)) (stopped, leaves);
     }
 
+-- a run in which a take failed leaves nothing
+failed-leaves : (report : Report) (st : Stage) (held : List ℕ) (v v' : SinkView) (left : Option World) (r : Status) → IsHeld st held →
+    Stopped report (from_stage st held Failed) v v' r → Leaves r report (from_stage st held Failed).progress.world left
+failed-leaves report st held v v' left r is stopped =
+    undone-leaves report (from_stage st held Failed) v v' r (from_stage st held Failed).progress.world left
+    (λ e. absurd (let clash : Some status.ReadFault ≡ Some status.Done = sym read ∙ e in cc)) stopped where
+      read : status_of (from_stage st held Failed) ≡ Some status.ReadFault
+      read = ap status_of (from-held st held Failed is.unended ∙ last-failed st.line st.at held st.progress is.unpassed)
+
 -- a take failed
-pub turn-failed : (report : Report) (st : Stage) (before after : BetweenTakes) (r : Status)
+pub turn-failed : (report : Report) (st : Stage) (before after : BetweenTakes) (left : Option World) (r : Status)
     → IsStage st → IsHeld st before.held → Keeps before.input.left after.input.left →
     after.input.faults ≡ before.input.faults + 1
     → Stopped report (from_stage st before.held Failed) before.output after.output r →
-    TakesTurn report st before after (Err r)
-turn-failed report st before after r stands is keeps cause stopped =
-    turn-ended report st Failed before after r stands is (Keeps-consumes before.input.left after.input.left keeps) cause
+    TakesTurn report st before after left (Err r)
+turn-failed report st before after left r stands is keeps cause stopped =
+    turn-ended report st Failed before after left r stands is (Keeps-consumes before.input.left after.input.left keeps) cause
     (λ e. ap status_of (from-held st before.held Failed is.unended
     ∙ last-failed st.line st.at before.held st.progress is.unpassed)) stopped
+    (failed-leaves report st before.held before.output after.output left r is stopped)

@@ -19,7 +19,8 @@ use Rattle.cg_outcome.specs.Produced.{Progress, Produced, before_all, prepend, t
 use Rattle.cg_outcome.specs.Putting.{StopsWith}
 use Rattle.cg_outcome.specs.Taking.{most_taken, most_at_once, HasCause, InTime}
 use Rattle.cg_outcome.specs.UnderWay.{IsUnderWay}
-use Rattle.cg_outcome.specs.Stopping.{Shows, Stopped}
+use Rattle.cg_outcome.specs.Stopping.{Leaves, Shows, Stopped}
+use Rattle.cg_model.specs.World.{World}
 
 -- where a run stands between two lines: the number of the next one, where it begins in the input, and how far it has come
 pub record Stage : Type 0 where
@@ -115,9 +116,10 @@ pub record BetweenTakes : Type 0 where
   pub output : SinkView
   pub held : List ℕ
 
--- one take behind what is held: a chunk of the input, which is taken up; or the taking has ended, and the run with it
-pub record TakesTurn (report : Report) (st : Stage) (before after : BetweenTakes) (result : Result
-    Stage Status) : Type 0 where
+-- one take behind what is held: a chunk of the input, which is taken up; or the taking has ended, and the run with it, and
+-- this is left of it
+pub record TakesTurn (report : Report) (st : Stage) (before after : BetweenTakes) (left : Option World)
+    (result : Result Stage Status) : Type 0 where
   pub chunk : List ℕ
   pub ending : Ending
   pub consumed : Consumes before.input.left after.input.left chunk
@@ -130,7 +132,8 @@ pub record TakesTurn (report : Report) (st : Stage) (before after : BetweenTakes
       (λ next. (0 < length chunk) × (after.input.faults ≡ before.input.faults)
       × GoesThrough report st (before.held ++ chunk) before.output after.output after.held next
       × IsHeld next after.held)
-      (λ status. Stopped report (from_stage st (before.held ++ chunk) ending) before.output after.output status)
+      (λ status. Stopped report (from_stage st (before.held ++ chunk) ending) before.output after.output status
+      × Leaves status report (from_stage st (before.held ++ chunk) ending).progress.world left)
 
 -- some bytes were taken, the taking ended in some way, and this holds of them
 pub record OfTaken (old new : SourceView) (Holds : List ℕ → Ending → Type 0) : Type 0 where
@@ -140,14 +143,15 @@ pub record OfTaken (old new : SourceView) (Holds : List ℕ → Ending → Type 
   pub cause : HasCause ending old new
   pub holds : Holds taken ending
 
--- the run has ended with this status, and put what the command puts of what it comes to
-abbrev pub Ends : Option Command → Produced → SinkView → SinkView → Status → Type 0
-Ends command p from to status = StopsWith (text_put command p) (status_of p) from to status
+-- the run has ended with this status, and put what the command puts of what it comes to, with this image
+abbrev pub Ends : Option Command → List ℕ → Produced → SinkView → SinkView → Status → Type 0
+Ends command image p from to status = StopsWith (text_put command image p) (status_of p) from to status
 
--- the input was taken as it was needed, and replayed
-abbrev pub Replays : Report → Companion → SourceView → SourceView → SinkView → SinkView → Status → Type 0
-Replays report c old new from to status =
+-- the input was taken as it was needed, and replayed, and this is left
+abbrev pub Replays : Report → Companion → SourceView → SourceView → SinkView → SinkView → Option World → Status → Type 0
+Replays report c old new from to left status =
     OfTaken old new (λ taken how.
     (length taken ≤ most_taken) × Stopped report (from_stage (first_stage c) taken how) from to status
     × InTime (text_of report) (λ front. from_stage (first_stage c) front Open) taken from to
-    × FailedIsLast how (from_stage (first_stage c) taken how))
+    × FailedIsLast how (from_stage (first_stage c) taken how)
+    × Leaves status report (from_stage (first_stage c) taken how).progress.world left)

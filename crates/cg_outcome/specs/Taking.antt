@@ -6,7 +6,7 @@ use Rattle.cg_outcome.specs.declared.limits.TheConstants.{INPUT_BYTES, TAKE_BYTE
 use Rattle.cg_base.specs.Text.{pieces_of}
 use Rattle.cg_io.specs.Outside.{SourceView, SinkView, PutsAll}
 use Rattle.cg_group.specs.declared.reason.Reason.{Reason}
-use Rattle.cg_model.specs.World.{no_world}
+use Rattle.cg_model.specs.World.{World, no_world, disk_at, has_begun}
 use Rattle.cg_model.specs.Run.{Step}
 use Rattle.cg_model.specs.Agreement.{RefusedExactly}
 use Rattle.cg_outcome.specs.Outcome.{Ending, Ended, Failed, Open, companion_for, outcome_of, outcome, pieces_for, text_put}
@@ -23,6 +23,11 @@ use Rattle.cg_outcome.specs.Produced.{Produced, status_of, refused_in, refusal_o
 use Rattle.cg_outcome.specs.Refusing.{RefusesLine, RefusesFurther}
 use Rattle.cg_outcome.specs.Commands.{command_of, reads_input}
 use Rattle.cg_outcome.specs.declared.command.Command.{Command}
+use Rattle.cg_outcome.specs.declared.command.Command.TheVariants.{Image}
+use Rattle.cg_disk.specs.Sides.{Image as Sides}
+use Rattle.cg_disk_records.specs.Crash.{Disk}
+use Rattle.cg_image.specs.Images.{image_text}
+use Rattle.cg_store.specs.Images.{IsImageOf}
 use Rattle.cg_outcome.specs.Putting.{Puts, StopsWith}
 use Rattle.cg_outcome.specs.Stopping.{EndsShort}
 
@@ -71,20 +76,34 @@ end_of_line (suc n) (line ∷ lines) = length line + 1 + end_of_line n lines
 abbrev pub ShowsShort : Option Command → Produced → Status → Type 0
 ShowsShort command p status = reads_input command ≡ true → EndsShort p status
 
+-- where a run is done the bytes are the image of the disk that a replica has in the world, if it has begun there
+abbrev pub IsImageAt : Status → ℕ → World → List ℕ → Type 0
+IsImageAt status.Done p w image =
+    (disk : Disk) → disk_at w p ≡ Some disk → (sides : Sides) × IsImageOf p disk sides × (image ≡ image_text p sides)
+IsImageAt st p w image = Unit {0}
+
+-- a command that puts an image puts that of the world at the end
+abbrev pub IsImage : Option Command → Produced → Status → List ℕ → Type 0
+IsImage (Some (Image p)) end st image = IsImageAt st p end.progress.world image
+IsImage command end st image = Unit {0}
+
 -- A command has run: these bytes were taken, no more than the most, and the taking ended in some way; what was put and the status
--- are what these bytes come to; and they were taken as they were needed: where a line is the first finding, no more past its end than is
--- taken at once.
+-- are what these bytes come to; and they were taken as they were needed: where a line, counted from 1, is the first finding, no more past
+-- its end than is taken at once.
 pub record Runs (command : Option Command) (old new : SourceView) (from to : SinkView) (status : Status) : Type 0 where
   pub taken : List ℕ
   pub ending : Ending
   pub consumed : Consumes old.left new.left taken
   pub cause : HasCause ending old new
   pub most : length taken ≤ most_taken
-  pub ends : StopsWith (text_put command (outcome_of command taken ending))
+  pub image : List ℕ
+  pub imaged : IsImage command (outcome_of command taken ending) status image
+  pub ends : StopsWith (text_put command image (outcome_of command taken ending))
       (status_of (outcome_of command taken ending)) from to status
-  pub in_time : InTime (text_put command) (λ front. outcome_of command front Open) taken from to
+  pub in_time : InTime (text_put command image) (λ front. outcome_of command front Open) taken from to
   pub short : ShowsShort command (outcome_of command taken ending) status
-  pub near : (n : ℕ) → found_in status ≡ Some n → length taken ≤ end_of_line n (pieces_of LINE_FEED taken) + most_at_once
+  pub near : (n : ℕ) → 1 ≤ n → found_in status ≡ Some n →
+      length taken ≤ end_of_line n (pieces_of LINE_FEED taken) + most_at_once
 
 -- no limit is passed that lines and inputs have: the limit of steps may be
 abbrev pub IsWithinLimits : Option Status → Type 0
@@ -101,7 +120,8 @@ Completes command old new from to result =
     IsWithinLimits (status_of (outcome_of command all Ended))
     → new.faults ≡ old.faults → to.faults ≡ from.faults
     → (result ≡ status.NoMemory) ⊎ ((status_of (outcome_of command all Ended) ≡ Some result)
-    × Puts from to (text_put command (outcome_of command all Ended)))
+    × (image : List ℕ) × IsImage command (outcome_of command all Ended) result image
+    × Puts from to (text_put command image (outcome_of command all Ended)))
 
 -- what holds of the steps of the outcome, whatever was taken and however the taking ended
 abbrev pub OfSteps : List (List ℕ) → (List Step → Type 0) → Type 0
@@ -125,7 +145,8 @@ abbrev pub TellsOfRefusals : List (List ℕ) → Type 0
 TellsOfRefusals words =
     (taken : List ℕ) (how : Ending) (n : ℕ) (reason : Reason) →
     status_of (outcome words taken how) ≡ Some (status.Refused n reason)
-    → RefusesLine (pieces_for (command_of words) taken) (steps_of (outcome words taken how).items) n reason
+    → RefusesLine (companion_for (command_of words)) (pieces_for (command_of words) taken)
+    (steps_of (outcome words taken how).items) n reason
     ⊎ RefusesFurther (companion_for (command_of words)) (pieces_for (command_of words) taken)
     (outcome words taken how).items n reason
 
@@ -133,6 +154,12 @@ TellsOfRefusals words =
 abbrev pub RefusesExactly : List (List ℕ) → Type 0
 RefusesExactly words = (taken : List ℕ) (how : Ending) →
     RefusedExactly (steps_of (outcome words taken how).items) (refusal_of (outcome words taken how))
+
+-- where a run is done of which the image of a disk is put, its replica has begun
+abbrev pub IsImaged : List (List ℕ) → Type 0
+IsImaged words = (taken : List ℕ) (how : Ending) (p : ℕ) → command_of words ≡ Some (Image p) →
+    status_of (outcome words taken how) ≡ Some status.Done →
+    has_begun (outcome words taken how).progress.world p ≡ true
 
 -- what is told of the logs that were read is so
 abbrev pub TellsOfLogs : List (List ℕ) → Type 0

@@ -10,8 +10,9 @@ use cg_text::read_u64;
 
 /// What a run is asked for: to replay the schedule of its input, and put so much of the report; to put the schedule of a
 /// seed, for so many replicas and of so many lines; or to replay that one, and put a summary. A schedule may also have
-/// lines of followers, of the relaxed database or of sessions, each with a command of its own; and the input may be logs,
-/// which are compared.
+/// lines of followers, of the relaxed database or of sessions, each with a command of its own; the input may be logs, which
+/// are compared, or the image of a replica's disk, which is looked at. Such an image is put of the disk that a replica has
+/// at the end of a schedule.
 #[derive(Clone, Copy, Debug)]
 pub enum Command {
     Replay(Report),
@@ -21,6 +22,8 @@ pub enum Command {
     Relaxed,
     Sessions,
     Compare,
+    Image { replica: u8 },
+    Inspect,
 }
 
 fn number_in(low: u64, high: u64, word: &ArgText) -> Option<u64>
@@ -49,6 +52,8 @@ fn word_alone(word: &ArgText) -> Option<Command>
         Some(Command::Sessions)
     } else if word.as_slice() == b"compare".as_slice() {
         Some(Command::Compare)
+    } else if word.as_slice() == b"inspect".as_slice() {
+        Some(Command::Inspect)
     } else if word.as_slice() == b"json".as_slice() {
         Some(Command::Replay(Report::Json))
     } else {
@@ -63,6 +68,20 @@ fn replicas_in(word: &ArgText) -> Option<u8>
     match number_in(1, 32, word) {
         Some(n) => Some(n as u8),
         None => None,
+    }
+}
+
+fn imaging(word: &ArgText, id: &ArgText) -> Option<Command>
+    ensures value { result ≡ command_of (word.now ∷ id.now ∷ []) }
+    ensures fits { IfSome result IsCommand }
+{
+    if word.as_slice() == b"image".as_slice() {
+        match replicas_in(id) {
+            Some(replica) => Some(Command::Image { replica }),
+            None => None,
+        }
+    } else {
+        None
     }
 }
 
@@ -144,6 +163,7 @@ pub fn command_of(words: &[ArgText]) -> Option<Command>
 {
     match words {
         [word] => word_alone(word),
+        [word, id] => imaging(word, id),
         [word, seed, replicas, lines] => generating(word, seed, replicas, lines),
         _ => None,
     }

@@ -15,9 +15,9 @@ impl Display for Explained {
         match self.0 {
             Status::Done => f.write_str("the command was carried out to its end"),
             Status::Usage => f.write_str(
-                "the words are no command; give `replay`, `check`, `follow`, `relaxed`, `sessions` or `json` a schedule by \
-                 < FILE, or `compare` logs, or give `generate` or `trial` SEED (a number of 64 bits), REPLICAS (1 to 32) \
-                 and LINES (3 to 200000)",
+                "the words are no command; give `replay`, `check`, `follow`, `relaxed`, `sessions`, `image` P (a replica, \
+                 1 to 32) or `json` a schedule by < FILE, or `compare` logs, or `inspect` an image, or give `generate` or \
+                 `trial` SEED (a number of 64 bits), REPLICAS (1 to 32) and LINES (3 to 200000)",
             ),
             Status::Syntax { line, reason } => {
                 let words = misreading(reason);
@@ -32,6 +32,9 @@ impl Display for Explained {
             Status::WriteFault => f.write_str(
                 "writing the output failed, so it isn't whole; see whether the disk is full or a pipe was closed",
             ),
+            Status::Limit { line: 0, .. } => f.write_str(
+                "the image passes a limit: it has more than 8388608 bytes, and longer ones aren't looked at",
+            ),
             Status::Limit { line, what } => {
                 write!(f, "line {line} passes a limit: {}", bound(what))
             }
@@ -41,6 +44,13 @@ impl Display for Explained {
             Status::NoEnd { lines } => write!(
                 f,
                 "the input has no last line `end` (its lines: {lines}); add it"
+            ),
+            Status::NotAnImage => f.write_str(
+                "the input isn't the image of a replica's disk: a byte with the replica's number, and each side behind its \
+                 length in 8 bytes",
+            ),
+            Status::NotAStore => f.write_str(
+                "on the disk in the image stands no state of the replica; see whether the image is that replica's, and whole",
             ),
         }
     }

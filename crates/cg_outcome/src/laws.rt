@@ -3,7 +3,7 @@ ghost use Rattle.cg_model.specs.Run.{IsRunFrom};
 ghost use Rattle.cg_model.specs.Agreement.{OrderGrows, Prefix, CreatorOrder, FoldAnswers, DirtyAnswers, OnePrimary, QuietSettles, MadeStays};
 ghost use Rattle.cg_terms.specs.Linearizable.{Linearizable, StronglyLinearizable};
 ghost use Rattle.cg_terms.specs.Guarantees.{Durable, ExactlyOnce, PrefixReads, NoSplitBrain};
-ghost use Rattle.cg_outcome.specs.Taking.{OfSteps, IsNoted, IsOfRun, TellsOfRefusals, TellsOfLogs, RefusesExactly};
+ghost use Rattle.cg_outcome.specs.Taking.{OfSteps, IsNoted, IsOfRun, TellsOfRefusals, TellsOfLogs, IsImaged, RefusesExactly};
 
 use crate::arg_text::ArgText;
 use cg_agree::runs_agree;
@@ -20,6 +20,7 @@ pub fn outcomes_agree(words: &[ArgText])
     ensures noted { IsNoted words.now }
     ensures of_run { IsOfRun words.now }
     ensures compared { TellsOfLogs words.now }
+    ensures imaged { IsImaged words.now }
     ensures order_grows { OfSteps words.now OrderGrows }
     ensures prefix { OfSteps words.now Prefix }
     ensures creator_order { OfSteps words.now CreatorOrder }

@@ -29,6 +29,6 @@ pub use explained::Explained;
 pub use laws::outcomes_agree;
 pub use limits::{INPUT_BYTES, LINE_BYTES, LINES, STEPS, TAKE_BYTES};
 pub use line::{held_limit, passed_limit, without_return};
-pub use putting::{finish, finish_logs, put_schedule, put_step, put_text};
+pub use putting::{finish, finish_inspection, finish_logs, put_schedule, put_step, put_text};
 pub use status::{Limit, Status};
 pub use totals::{Totals, put_summary};

@@ -5,6 +5,7 @@ ghost use Rattle.cg_gen.specs.Generated.{generated};
 ghost use Rattle.cg_gen.specs.Lines.{lines_of};
 ghost use Rattle.cg_outcome.specs.declared.status.Status.TheVariants as status;
 ghost use Rattle.cg_items.specs.Items.{entry_in};
+ghost use Rattle.cg_report.specs.EntryText.{body_text};
 ghost use Rattle.cg_compare.specs.JoinText.{joined_text};
 ghost use Rattle.cg_outcome.specs.Produced.{tail_in, logs_text};
 ghost use Rattle.cg_outcome.specs.Stopping.{CutShort, IsFinding};
@@ -82,6 +83,21 @@ pub fn finish_logs<K: Sink>(alloc: Global, output: &mut K, logs: &LogList) -> St
     }
 }
 
+/// Ends an inspection that has seen a replica: puts what a recovery prints of it.
+pub fn finish_inspection<K: Sink>(alloc: Global, output: &mut K, entry: &Entry) -> Status
+    requires { (K.view output.old).faults < COUNT_LIMIT }
+    ensures { StopsWith (body_text entry.now) (Some status.Done) (K.view output.old) (K.view output.new) result }
+{
+    let mut text = Vec::new(alloc);
+    if put_shown(&mut text, entry).is_err() {
+        return Status::NoMemory;
+    }
+    match put_text(alloc, output, &text) {
+        Ok(()) => Status::Done,
+        Err(other) => other,
+    }
+}
+
 fn put_logs(alloc: Global, out: &mut Vec<u8>, logs: &LogList) -> Result<(), NoMemory>
     ensures { OnOk result (out.new.items ≡ out.old.items ++ logs_text logs.now) }
 {
@@ -134,6 +150,8 @@ fn put_entry_in(
         Report::Json => json(number, entry, out),
         Report::Tail => Ok(()),
         Report::Joined => Ok(()),
+        Report::Inspected => Ok(()),
+        Report::Imaged => Ok(()),
     }
 }
 

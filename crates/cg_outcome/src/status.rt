@@ -19,7 +19,8 @@ pub enum Limit {
 /// How a run ended. Lines are counted from 1.
 #[derive(Clone, Copy, Debug, PartialEq, Eq)]
 pub enum Status {
-    /// All of the input was gone through, and `end` stood in it; or the schedule of a seed was put.
+    /// All of the input was gone through, and `end` stood in it; the schedule of a seed was put; or a replica was seen in
+    /// an image.
     Done,
     /// The words are no command.
     Usage,
@@ -39,7 +40,7 @@ pub enum Status {
     ReadFault,
     /// A put to the output failed, the first that did: of an entry, of a tail, of a summary or of a schedule.
     WriteFault,
-    /// The line passes the limit.
+    /// The line passes the limit; line 0 says that an image does.
     Limit {
         line: u64,
         what: Limit,
@@ -51,6 +52,10 @@ pub enum Status {
         /// How many lines the input has.
         lines: u64,
     },
+    /// The input is no image of a replica's disk.
+    NotAnImage,
+    /// The input is an image of a replica's disk on which no state of the replica stands.
+    NotAStore,
 }
 
 impl Status {
@@ -68,6 +73,8 @@ impl Status {
             Status::Limit { .. } => 6,
             Status::NoMemory => 7,
             Status::NoEnd { .. } => 8,
+            Status::NotAnImage => 10,
+            Status::NotAStore => 11,
         }
     }
 }

@@ -55,7 +55,10 @@ fn put_tail_line(out: &mut Vec<u8>, status: &Status, steps: u64, lines: u64) -> 
                 out,
                 b"usage: congruity replay | check | generate SEED REPLICAS LINES | trial SEED REPLICAS LINES",
             )?;
-            put(out, b" | follow | relaxed | sessions | compare | json")
+            put(
+                out,
+                b" | follow | relaxed | sessions | compare | image P | inspect | json",
+            )
         }
         Status::Syntax { line, reason } => {
             put_numbered(out, b"syntax ", *line)?;
@@ -72,6 +75,8 @@ fn put_tail_line(out: &mut Vec<u8>, status: &Status, steps: u64, lines: u64) -> 
             put_limit(out, *what)
         }
         Status::NoEnd { lines: all } => put_numbered(out, b"no end ", *all),
+        Status::NotAnImage => put(out, b"not an image"),
+        Status::NotAStore => put(out, b"not a store"),
         Status::WriteFault | Status::NoMemory => Ok(()),
     }
 }

@@ -36,6 +36,8 @@ cut-alone : (report : Report) (i : Item) (next : Progress) (v v1 : SinkView) (st
 cut-alone report i next v v1 status.WriteFault cut = (subst (λ text. PutsPart v v1 text 1) (sym (append-nil (item_in report i))) cut, λ finding. absurd finding)
 cut-alone report i next v v1 status.NoMemory cut = (subst (λ text. PutsPart v v1 text 0) (sym (append-nil (item_in report i))) cut, λ finding. absurd finding)
 cut-alone report i next v v1 status.Done cut = absurd cut
+cut-alone report i next v v1 status.NotAnImage cut = absurd cut
+cut-alone report i next v v1 status.NotAStore cut = absurd cut
 cut-alone report i next v v1 status.Usage cut = absurd cut
 cut-alone report i next v v1 (status.Syntax line reason) cut = absurd cut
 cut-alone report i next v v1 (status.Refused line reason) cut = absurd cut

@@ -1,6 +1,7 @@
 pub mod Asked
 pub mod GoingOn
 pub mod Happening
+pub mod PutImages
 pub mod Replaying
 pub mod EndedReading
 pub mod Cores

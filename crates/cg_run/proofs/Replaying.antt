@@ -3,6 +3,7 @@ use Rattle.std.proofs.Common.{◌≡◌, ℕ, List, [], ◌++◌, take, Option, 
 use Rattle.cg_io.specs.Outside.{SourceView, SinkView, PutsAll}
 use Rattle.cg_items.specs.declared.companion.Companion.{Companion}
 use Rattle.cg_items.specs.declared.report.Report.{Report}
+use Rattle.cg_model.specs.World.{World}
 use Rattle.cg_outcome.specs.declared.command.Command.{Command}
 use Rattle.cg_outcome.specs.declared.status.Status.{Status}
 use Rattle.cg_outcome.specs.declared.status.Status.TheVariants as status
@@ -14,14 +15,14 @@ use Rattle.cg_outcome.specs.Putting.{StopsWith}
 use Rattle.cg_outcome.specs.Stopping.{EndsShort}
 use Rattle.cg_outcome.specs.Streaming.{Ends, FailedIsLast, Replays, first_stage, from_stage}
 use Rattle.cg_outcome.specs.TakeLaws.{Consumes-none}
-use Rattle.cg_outcome.specs.Taking.{Runs, ReadCause}
+use Rattle.cg_outcome.specs.Taking.{IsImage, Runs, ReadCause}
 use Rattle.cg_outcome.specs.NearLaws.{Runs-near}
 use Rattle.cg_outcome.specs.SparedLaws.{read-cause}
 
 -- memory was refused before anything was taken
-pub Replays-nothing : (report : Report) (c : Companion) (old : SourceView) (v : SinkView) →
-    Replays report c old old v v status.NoMemory
-Replays-nothing report c old v =
+pub Replays-nothing : (report : Report) (c : Companion) (old : SourceView) (v : SinkView) (left : Option World) →
+    Replays report c old old v v left status.NoMemory
+Replays-nothing report c old v left =
     let p : Produced = from_stage (first_stage c) [] Open in
     record {
       taken = [];
@@ -39,33 +40,36 @@ Replays-nothing report c old v =
         ),
         λ m few. absurd (omega (arith, few)),
         λ is. absurd (cc),
+        tt,
       );
     }
 
 -- the command puts a report of what its input comes to, with this beside the world
 pub record IsReplay (command : Command) (report : Report) (c : Companion) : Type 0 where
-  pub text : (p : Produced) → text_put (Some command) p ≡ text_of report p
+  pub text : (p : Produced) → text_put (Some command) [] p ≡ text_of report p
+  pub plain : (p : Produced) (st : Status) → IsImage (Some command) p st []
   pub comes : (taken : List ℕ) (how : Ending) → outcome_of (Some command) taken how ≡ from_stage (first_stage c) taken how
 
 module _ (command : Command) (report : Report) (c : Companion) (is : IsReplay command report c)
-    (old new : SourceView) (v v' : SinkView) (st : Status) (r : Replays report c old new v v' st) where
-  replay-ends : Ends (Some command) (outcome_of (Some command) r.taken r.ending) v v' st
+    (old new : SourceView) (v v' : SinkView) (left : Option World) (st : Status) (r : Replays report c old new v v' left st) where
+  replay-ends : Ends (Some command) [] (outcome_of (Some command) r.taken r.ending) v v' st
   replay-ends =
-      subst (λ (p : Produced). Ends (Some command) p v v' st) (sym (is.comes r.taken r.ending))
+      subst (λ (p : Produced). Ends (Some command) [] p v v' st) (sym (is.comes r.taken r.ending))
       (subst (λ (text : List ℕ). StopsWith text (status_of (from_stage (first_stage c) r.taken r.ending)) v v' st)
       (sym (is.text (from_stage (first_stage c) r.taken r.ending))) r.holds.1.0)
 
   replay-runs-so : Runs (Some command) old new v v' st
-  replay-runs-so = Runs-near (Some command) old new v v' st (record {
+  replay-runs-so = Runs-near (Some command) [] old new v v' st (record {
     taken = r.taken;
     ending = r.ending;
     consumed = r.consumed;
     cause = r.cause;
     holds = (
       r.holds.0,
+      is.plain (outcome_of (Some command) r.taken r.ending) st,
       replay-ends,
       λ m le.
-          subst (λ (p : Produced). (p.found ≡ None) × (rest : List ℕ) × PutsAll v v' (text_put (Some command) p ++ rest))
+          subst (λ (p : Produced). (p.found ≡ None) × (rest : List ℕ) × PutsAll v v' (text_put (Some command) [] p ++ rest))
           (sym (is.comes (take m r.taken) Open))
           (subst (λ (text : List ℕ). ((from_stage (first_stage c) (take m r.taken) Open).found ≡ None)
           × (rest : List ℕ) × PutsAll v v' (text ++ rest))
@@ -80,5 +84,5 @@ module _ (command : Command) (report : Report) (c : Companion) (is : IsReplay co
 
   pub replay-cause : ReadCause old new st
   replay-cause =
-      read-cause (Some command) r.taken r.ending old new v v' st r.cause
+      read-cause (Some command) [] r.taken r.ending old new v v' st r.cause
       (subst (λ (p : Produced). FailedIsLast r.ending p) (sym (is.comes r.taken r.ending)) r.holds.3) replay-ends

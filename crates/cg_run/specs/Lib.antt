@@ -1,5 +1,6 @@
 pub mod Asking
 pub mod Ending
+pub mod Imaging
 pub mod Making
 pub mod Next
 pub mod Noting

@@ -1,5 +1,5 @@
 -- How far the code of a run has come, as definitions see it, and what performing a part of a run comes to.
-use Rattle.std.specs.Prelude.{◌≡◌, ℕ, None, Result, Ok, Err, MatchResult}
+use Rattle.std.specs.Prelude.{◌≡◌, ℕ, None, Option, Result, Ok, Err, MatchResult, option_map}
 use Rattle.cg_io.specs.Outside.{SinkView}
 use Rattle.cg_items.specs.declared.report.Report.{Report}
 use Rattle.cg_model.specs.World.{World}
@@ -7,6 +7,7 @@ use Rattle.cg_outcome.specs.declared.status.Status.{Status}
 use Rattle.cg_outcome.specs.Produced.{Progress, Produced, end_in, tail_in}
 use Rattle.cg_outcome.specs.Streaming.{Stage}
 use Rattle.cg_outcome.specs.Stopping.{Shows, Stopped}
+use Rattle.cg_world.specs.SoFar.{SoFar}
 use Rattle.cg_run.specs.declared.progress.Beside.{Beside}
 use Rattle.cg_run.specs.declared.progress.Progress.{Progress as RunProgress}
 use Rattle.cg_run.specs.declared.progress.Stage.{Stage as RunStage}
@@ -20,6 +21,7 @@ seen p = record {
   count = p.beside.value.count;
   totals = p.beside.value.totals;
   logs = p.beside.value.logs;
+  replica = None;
 }
 
 -- the same with this world, and with this beside it
@@ -31,7 +33,12 @@ seen_beside w b = record {
   count = b.count;
   totals = b.totals;
   logs = b.logs;
+  replica = None;
 }
+
+-- the world that is left of a run, where one is
+abbrev pub worlds : Option SoFar → Option World
+worlds left = option_map (λ s. s.world) left
 
 -- where it stands between two lines
 abbrev pub seen_stage : RunStage → Stage

@@ -11,6 +11,8 @@ mod comparing;
 mod ending;
 mod following;
 mod further;
+mod imaging;
+mod inspecting;
 mod line_reader;
 mod progress;
 mod refusing;

@@ -14,8 +14,8 @@ ghost use Rattle.cg_outcome.specs.Calls.{word_outcome};
 ghost use Rattle.cg_outcome.specs.Streaming.{held_limit};
 ghost use Rattle.cg_outcome.specs.UnderWay.{HasBegun, IsUnderWay};
 ghost use Rattle.cg_run.specs.Next.{MayHappen, IsNext};
-ghost use Rattle.cg_outcome.specs.Stopping.{Stopped};
-ghost use Rattle.cg_run.specs.Performing.{seen, Performs};
+ghost use Rattle.cg_outcome.specs.Stopping.{Leaves, Stopped};
+ghost use Rattle.cg_run.specs.Performing.{seen, worlds, Performs};
 
 use crate::asking::perform_further;
 use crate::comparing::begin_log;
@@ -29,6 +29,7 @@ use cg_outcome::{Companion, Further, Limit, Status, passed_limit, without_return
 use cg_schedule::{Event, Word, lines_are_exact};
 use cg_session::session_lines_are_exact;
 use cg_text::Words;
+use cg_world::World;
 
 // The event of a line, which the reader has read.
 fn carry_out<K: Sink>(
@@ -161,6 +162,7 @@ pub fn begin_line<K: Sink>(
 {
     match &progress.beside.companion {
         Companion::Alone => begin_event(line, output, text, progress),
+        Companion::Imaging(_) => begin_event(line, output, text, progress),
         Companion::Comparing => begin_log(line, output, text, progress),
         _ => begin_further(line, output, text, progress),
     }
@@ -203,30 +205,46 @@ pub fn whole_line<K: Sink>(
 }
 
 // The input has ended behind a last line without its end.
-fn close_in_line<K: Sink>(line: Line, output: &mut K, text: &[u8], progress: Progress) -> Status
+fn close_in_line<K: Sink>(
+    line: Line,
+    output: &mut K,
+    left: &mut Option<World>,
+    text: &[u8],
+    progress: Progress,
+) -> Status
     requires few_faults { (K.view output.old).faults < COUNT_LIMIT }
     requires under_way { IsUnderWay (seen progress) }
-    ensures { Stopped line.report (cut_line line.number text.now Ended (seen progress))
+    ensures stopped { Stopped line.report (cut_line line.number text.now Ended (seen progress))
         (K.view output.old) (K.view output.new) result }
+    ensures left { Leaves result line.report
+        (cut_line line.number text.now Ended (seen progress)).progress.world (worlds left.new) }
 {
     match begin_line(line, output, text, progress) {
-        Ok(next) => end_input(line, output, next),
+        Ok(next) => end_input(line, output, left, next),
         Err(status) => status,
     }
 }
 
 /// The input has ended behind these bytes of a line, which pass no limit.
-pub fn close<K: Sink>(line: Line, output: &mut K, rest: &[u8], progress: Progress) -> Status
+pub fn close<K: Sink>(
+    line: Line,
+    output: &mut K,
+    left: &mut Option<World>,
+    rest: &[u8],
+    progress: Progress,
+) -> Status
     requires few_faults { (K.view output.old).faults < COUNT_LIMIT }
     requires counted { 1 ≤ line.number }
     requires under_way { IsUnderWay (seen progress) }
-    ensures { (at : ℕ) → held_limit line.number at rest.now ≡ None →
+    ensures stopped { (at : ℕ) → held_limit line.number at rest.now ≡ None →
         Stopped line.report (last_piece line.number at rest.now Ended (seen progress))
         (K.view output.old) (K.view output.new) result }
+    ensures left { (at : ℕ) → held_limit line.number at rest.now ≡ None → Leaves result line.report
+        (last_piece line.number at rest.now Ended (seen progress)).progress.world (worlds left.new) }
 {
     if rest.is_empty() {
-        end_input(line.above(), output, progress)
+        end_input(line.above(), output, left, progress)
     } else {
-        close_in_line(line, output, rest, progress)
+        close_in_line(line, output, left, rest, progress)
     }
 }

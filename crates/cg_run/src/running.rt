@@ -14,10 +14,12 @@ ghost use Rattle.cg_items.specs.RelaxedAgree.{RelaxedAgree};
 ghost use Rattle.cg_items.specs.SessionsAgree.{SessionsAgree};
 ghost use Rattle.cg_outcome.specs.Commands.{command_of, reads_input};
 ghost use Rattle.cg_outcome.specs.Status.{write_faults};
-ghost use Rattle.cg_outcome.specs.Taking.{Runs, ReadCause, Completes, OfItems, OfSteps, IsNoted, IsOfRun, TellsOfRefusals, TellsOfLogs, RefusesExactly};
+ghost use Rattle.cg_outcome.specs.Taking.{Runs, ReadCause, Completes, OfItems, OfSteps, IsNoted, IsOfRun, TellsOfRefusals, TellsOfLogs, IsImaged, RefusesExactly};
 
 use crate::agreement::items_agree;
-use crate::streaming::replay;
+use crate::imaging::image_replica;
+use crate::inspecting::inspect_input;
+use crate::streaming::replay_alone;
 use crate::trial::try_schedule;
 use cg_follower_list::FollowerList;
 use cg_io::{Sink, Source};
@@ -63,19 +65,23 @@ fn run_command<S: Source, K: Sink>(
 {
     match command_of(words) {
         None => finish(alloc, output, Report::Whole, Status::Usage, 0, 0),
-        Some(Command::Replay(report)) => replay(alloc, input, output, report, Companion::Alone),
+        Some(Command::Replay(report)) => {
+            replay_alone(alloc, input, output, report, Companion::Alone)
+        }
         Some(Command::Follow) => {
-            replay(alloc, input, output, Report::Whole, no_followers(alloc))
+            replay_alone(alloc, input, output, Report::Whole, no_followers(alloc))
         }
         Some(Command::Relaxed) => {
-            replay(alloc, input, output, Report::Whole, nothing_made(alloc))
+            replay_alone(alloc, input, output, Report::Whole, nothing_made(alloc))
         }
         Some(Command::Sessions) => {
-            replay(alloc, input, output, Report::Whole, no_sessions(alloc))
+            replay_alone(alloc, input, output, Report::Whole, no_sessions(alloc))
         }
         Some(Command::Compare) => {
-            replay(alloc, input, output, Report::Joined, Companion::Comparing)
+            replay_alone(alloc, input, output, Report::Joined, Companion::Comparing)
         }
+        Some(Command::Image { replica }) => image_replica(alloc, input, output, replica),
+        Some(Command::Inspect) => inspect_input(alloc, input, output),
         Some(
             Command::Generate {
                 seed,
@@ -129,6 +135,9 @@ pub fn run<S: Source, K: Sink>(
 
     // What is told of logs holds of them: whether they are parts of one order, and what all such orders share.
     ensures compared { TellsOfLogs words.now }
+
+    // Where the image of a replica's disk is put and the run is done, the replica has begun.
+    ensures imaged { IsImaged words.now }
 
     // A refusal tells of the line whose event isn't admitted, and of the first reason.
     ensures refused { TellsOfRefusals words.now }

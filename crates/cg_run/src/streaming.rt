@@ -1,9 +1,10 @@
-ghost use Rattle.std.specs.Prelude.{◌<◌, ◌++◌, MatchResult};
+ghost use Rattle.std.specs.Prelude.{◌<◌, ◌++◌, List, ℕ, MatchResult, Option};
 ghost use Rattle.cg_base.specs.declared.limits.TheConstants.{COUNT_LIMIT};
+ghost use Rattle.cg_model.specs.World.{World as WorldOf};
 ghost use Rattle.cg_outcome.specs.Outcome.{whole_line, Ended, Failed};
 ghost use Rattle.cg_outcome.specs.Streaming.{from_stage, IsStage, IsUnended, IsHeld, held_limit, EndsLine, HoldsRest, TakesUp, TakesTurn, Replays};
-ghost use Rattle.cg_outcome.specs.Stopping.{Stopped};
-ghost use Rattle.cg_run.specs.Performing.{seen, seen_stage, seen_end};
+ghost use Rattle.cg_outcome.specs.Stopping.{Leaves, Stopped};
+ghost use Rattle.cg_run.specs.Performing.{seen, seen_stage, seen_end, worlds};
 
 use crate::ending::end_run;
 use crate::progress::{Line, Stage};
@@ -11,6 +12,7 @@ use crate::replay::{close, refuse_limit, whole_line};
 use cg_base::cut_at;
 use cg_io::{Sink, Source};
 use cg_outcome::{Companion, INPUT_BYTES, Report, Status, TAKE_BYTES, held_limit};
+use cg_world::World;
 use std::alloc::Global;
 
 // A line's end was taken: what is held and this piece are the line, and nothing is held behind it.
@@ -113,6 +115,7 @@ fn take_up<K: Sink>(
 fn close_stage<K: Sink>(
     alloc: Global,
     output: &mut K,
+    left: &mut Option<World>,
     report: Report,
     held: &[u8],
     stage: Stage,
@@ -120,8 +123,10 @@ fn close_stage<K: Sink>(
     requires few_faults { (K.view output.old).faults < COUNT_LIMIT }
     requires stands { IsStage (seen_stage stage) }
     requires held { IsHeld (seen_stage stage) held.now }
-    ensures { Stopped report (from_stage (seen_stage stage) held.now Ended)
+    ensures stopped { Stopped report (from_stage (seen_stage stage) held.now Ended)
         (K.view output.old) (K.view output.new) result }
+    ensures left { Leaves result report
+        (from_stage (seen_stage stage) held.now Ended).progress.world (worlds left.new) }
 {
     let Stage { line, progress, .. } = stage;
     let this = Line {
@@ -129,24 +134,16 @@ fn close_stage<K: Sink>(
         report,
         number: line,
     };
-    close(this, output, held, progress)
+    close(this, output, left, held, progress)
 }
 
 // A take has failed behind what is held.
-fn fail_stage<K: Sink>(
-    alloc: Global,
-    output: &mut K,
-    report: Report,
-    held: &[u8],
-    stage: Stage,
-) -> Status
+fn fail_stage<K: Sink>(alloc: Global, output: &mut K, report: Report, stage: Stage) -> Status
     requires few_faults { (K.view output.old).faults < COUNT_LIMIT }
     requires stands { IsStage (seen_stage stage) }
-    requires held { IsHeld (seen_stage stage) held.now }
-    ensures { Stopped report (from_stage (seen_stage stage) held.now Failed)
-        (K.view output.old) (K.view output.new) result }
+    ensures { (held : List ℕ) → IsHeld (seen_stage stage) held →
+        Stopped report (from_stage (seen_stage stage) held Failed) (K.view output.old) (K.view output.new) result }
 {
-    let _held = held;
     let Stage { line, progress, .. } = stage;
     let last = Line {
         alloc,
@@ -161,6 +158,7 @@ fn make_turn<S: Source, K: Sink>(
     alloc: Global,
     input: &mut S,
     output: &mut K,
+    left: &mut Option<World>,
     report: Report,
     held: &mut Vec<u8>,
     stage: Stage,
@@ -171,20 +169,49 @@ fn make_turn<S: Source, K: Sink>(
     requires held { IsHeld (seen_stage stage) held.old.items }
     ensures { TakesTurn report (seen_stage stage)
         (record { input = S.view input.old; output = K.view output.old; held = held.old.items })
-        (record { input = S.view input.new; output = K.view output.new; held = held.new.items }) (seen_end result) }
+        (record { input = S.view input.new; output = K.view output.new; held = held.new.items })
+        (worlds left.new) (seen_end result) }
 {
     let mut buffer = [0u8; TAKE_BYTES];
     let room = (INPUT_BYTES + 1 - stage.at - held.len()).min(TAKE_BYTES);
     match input.take(&mut buffer[..room]) {
-        Err(_) => Err(fail_stage(alloc, output, report, held.as_slice(), stage)),
-        Ok(0) => Err(close_stage(alloc, output, report, held.as_slice(), stage)),
+        Err(_) => Err(fail_stage(alloc, output, report, stage)),
+        Ok(0) => Err(close_stage(alloc, output, left, report, held.as_slice(), stage)),
         Ok(count) => take_up(alloc, output, report, held, &buffer[..count], stage),
     }
 }
 
 /// Replays the schedule that the input gives, with this beside the world. A take is made while no whole line is held, and
-/// each line is performed, and its entries put, before more is taken: memory doesn't hold the input.
+/// each line is performed, and its entries put, before more is taken: memory doesn't hold the input. Where the image of a
+/// disk is to be put of a run that is done, its world is left.
 pub fn replay<S: Source, K: Sink>(
+    alloc: Global,
+    input: &mut S,
+    output: &mut K,
+    left: &mut Option<World>,
+    report: Report,
+    companion: Companion,
+) -> Status
+    requires few_read_faults { (S.view input.old).faults < COUNT_LIMIT }
+    requires few_write_faults { (K.view output.old).faults < COUNT_LIMIT }
+    ensures { Replays report companion (S.view input.old) (S.view input.new)
+        (K.view output.old) (K.view output.new) (worlds left.new) result }
+{
+    let Ok(first) = Stage::first(alloc, companion) else {
+        return Status::NoMemory;
+    };
+    let mut held = Vec::new(alloc);
+    let mut stage = first;
+    loop {
+        match make_turn(alloc, input, output, left, report, &mut held, stage) {
+            Ok(next) => stage = next,
+            Err(status) => return status,
+        }
+    }
+}
+
+/// The same of a run of which nothing is left.
+pub fn replay_alone<S: Source, K: Sink>(
     alloc: Global,
     input: &mut S,
     output: &mut K,
@@ -193,18 +220,11 @@ pub fn replay<S: Source, K: Sink>(
 ) -> Status
     requires few_read_faults { (S.view input.old).faults < COUNT_LIMIT }
     requires few_write_faults { (K.view output.old).faults < COUNT_LIMIT }
-    ensures { Replays report companion (S.view input.old) (S.view input.new)
-        (K.view output.old) (K.view output.new) result }
+    ensures { (left : Option WorldOf) × Replays report companion (S.view input.old) (S.view input.new)
+        (K.view output.old) (K.view output.new) left result }
 {
-    let Ok(first) = Stage::first(alloc, companion) else {
-        return Status::NoMemory;
-    };
-    let mut held = Vec::new(alloc);
-    let mut stage = first;
-    loop {
-        match make_turn(alloc, input, output, report, &mut held, stage) {
-            Ok(next) => stage = next,
-            Err(status) => return status,
-        }
-    }
+    let mut left = None;
+    let status = replay(alloc, input, output, &mut left, report, companion);
+    drop(left);
+    status
 }

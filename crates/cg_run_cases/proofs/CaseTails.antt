@@ -6,15 +6,15 @@ use Rattle.cg_outcome.specs.Outcome.{Ended, Failed, Open}
 use Rattle.cg_run_cases.specs.Replaying.{utf8, put_of, replayed_text, written}
 use Rattle.cg_run_cases.specs.Computing.{cases_compute}
 
-no_words : put_of [] [] Open ≡ written ("usage: congruity replay | check | generate SEED REPLICAS LINES | trial SEED REPLICAS LINES | follow | relaxed | sessions | compare | json" ∷ [])
+no_words : put_of [] [] Open ≡ written ("usage: congruity replay | check | generate SEED REPLICAS LINES | trial SEED REPLICAS LINES | follow | relaxed | sessions | compare | image P | inspect | json" ∷ [])
 unfolding cases_compute
 no_words = refl
 
-a_word_more : put_of ("replay" ∷ "first" ∷ []) [] Open ≡ written ("usage: congruity replay | check | generate SEED REPLICAS LINES | trial SEED REPLICAS LINES | follow | relaxed | sessions | compare | json" ∷ [])
+a_word_more : put_of ("replay" ∷ "first" ∷ []) [] Open ≡ written ("usage: congruity replay | check | generate SEED REPLICAS LINES | trial SEED REPLICAS LINES | follow | relaxed | sessions | compare | image P | inspect | json" ∷ [])
 unfolding cases_compute
 a_word_more = refl
 
-another_word : put_of ("Replay" ∷ []) [] Open ≡ written ("usage: congruity replay | check | generate SEED REPLICAS LINES | trial SEED REPLICAS LINES | follow | relaxed | sessions | compare | json" ∷ [])
+another_word : put_of ("Replay" ∷ []) [] Open ≡ written ("usage: congruity replay | check | generate SEED REPLICAS LINES | trial SEED REPLICAS LINES | follow | relaxed | sessions | compare | image P | inspect | json" ∷ [])
 unfolding cases_compute
 another_word = refl
 

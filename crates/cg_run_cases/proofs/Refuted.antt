@@ -706,7 +706,7 @@ ended_before_its_end g = ⊎_elim (λ (refused : status.NoEnd 2 ≡ status.NoMem
 
 done_without_its_report : Completes (Some (Replay Whole)) full used_up nothing_put nothing_put status.Done → ⊥
 unfolding cases_compute
-done_without_its_report g = ⊎_elim (λ (refused : status.Done ≡ status.NoMemory). cc) (λ told. true≢false (ap is_nil told.1.all)) (g input_with_end (λ e. refl) tt refl refl)
+done_without_its_report g = ⊎_elim (λ (refused : status.Done ≡ status.NoMemory). cc) (λ told. true≢false (ap is_nil told.3.all)) (g input_with_end (λ e. refl) tt refl refl)
 
 -- ---- refused exactly
 

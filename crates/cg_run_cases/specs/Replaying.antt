@@ -19,7 +19,7 @@ written (line ∷ lines) = utf8 line ++ 10 ∷ written lines
 
 -- what is put where these words are given, and these bytes are taken
 abbrev pub put_of : List String → List ℕ → Ending → List ℕ
-put_of words taken how = text_put (command_of (texts words)) (outcome (texts words) taken how) where
+put_of words taken how = text_put (command_of (texts words)) [] (outcome (texts words) taken how) where
   texts : List String → List (List ℕ)
   texts [] = []
   texts (word ∷ words) = utf8 word ∷ texts words

@@ -8,15 +8,18 @@ use std::alloc::{AllocError, AllocGlobal};
 use std::test::Fail;
 
 const WORDS: &str = "Done -> the command was carried out to its end
-Usage -> the words are no command; give `replay`, `check`, `follow`, `relaxed`, `sessions` or `json` a schedule by < FILE, or `compare` logs, or give `generate` or `trial` SEED (a number of 64 bits), REPLICAS (1 to 32) and LINES (3 to 200000)
+Usage -> the words are no command; give `replay`, `check`, `follow`, `relaxed`, `sessions`, `image` P (a replica, 1 to 32) or `json` a schedule by < FILE, or `compare` logs, or `inspect` an image, or give `generate` or `trial` SEED (a number of 64 bits), REPLICAS (1 to 32) and LINES (3 to 200000)
 ReadFault -> reading the input failed; give a file that can be read, by < FILE
 WriteFault -> writing the output failed, so it isn't whole; see whether the disk is full or a pipe was closed
 Limit { line: 2, what: Line } -> line 2 passes a limit: it has more than 32768 bytes; make it shorter
 Limit { line: 2, what: Input } -> line 2 passes a limit: with it the input has more than 8388608 bytes; make it shorter
 Limit { line: 2, what: Lines } -> line 2 passes a limit: with it the input has more than 200000 lines; make it shorter
 Limit { line: 2, what: Steps } -> line 2 passes a limit: with it the run has more than 2000000 steps; ask for fewer passes or lines
+Limit { line: 0, what: Input } -> the image passes a limit: it has more than 8388608 bytes, and longer ones aren't looked at
 NoMemory -> memory was refused, so the output isn't whole; give more memory, or a shorter schedule
 NoEnd { lines: 7 } -> the input has no last line `end` (its lines: 7); add it
+NotAnImage -> the input isn't the image of a replica's disk: a byte with the replica's number, and each side behind its length in 8 bytes
+NotAStore -> on the disk in the image stands no state of the replica; see whether the image is that replica's, and whole
 Syntax { line: 4, reason: 1 } -> line 4 can't be read: it isn't UTF-8; save the file as UTF-8 (reason 1)
 Syntax { line: 4, reason: 2 } -> line 4 can't be read: its first word is none that this command reads; words are in lower case, and no byte order mark comes before them (reason 2)
 Syntax { line: 4, reason: 3 } -> line 4 can't be read: it ends too early; docs/SCHEDULES.md has the parts of each line, as `stop 1 0 -` (reason 3)
@@ -52,7 +55,7 @@ SessionUsed(7) -> line 5 isn't admitted: session 7 is open already; take another
 NotCreating(ReplicaId { number: 3 }) -> line 5 isn't admitted: replica 3 would keep the request for later; write at one in RegPrim, or in NonPrim of a regular configuration (reason 25)
 ";
 
-fn ends() -> [Status; 10] {
+fn ends() -> [Status; 13] {
     [
         Status::Done,
         Status::Usage,
@@ -62,8 +65,14 @@ fn ends() -> [Status; 10] {
         passed(Limit::Input),
         passed(Limit::Lines),
         passed(Limit::Steps),
+        Status::Limit {
+            line: 0,
+            what: Limit::Input,
+        },
         Status::NoMemory,
         Status::NoEnd { lines: 7 },
+        Status::NotAnImage,
+        Status::NotAStore,
     ]
 }
 

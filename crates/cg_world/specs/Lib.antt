@@ -1,4 +1,5 @@
 pub mod AllMade
+pub mod DiskOut
 pub mod Led
 pub mod MadeActions
 pub mod SoFar

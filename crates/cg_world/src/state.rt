@@ -11,7 +11,7 @@ ghost use Rattle.cg_model.specs.Making.{printed_position};
 ghost use Rattle.cg_model.specs.Places.{creates, place_of};
 ghost use Rattle.cg_model.specs.World.{replica_of, up_replicas};
 ghost use Rattle.cg_world.specs.MadeActions.{made_named};
-ghost use Rattle.cg_world_events.specs.DiskOut.{GivesDisk};
+ghost use Rattle.cg_world.specs.DiskOut.{GivesDisk};
 ghost use Rattle.cg_world.specs.Standing.{standing_of};
 
 use crate::Standing;
@@ -103,6 +103,13 @@ impl World {
         ensures { result ≡ takes_part self.now.world p }
     {
         self.state.takes_part(p)
+    }
+
+    /// Why nothing can be asked of the replica at all: it hasn't begun. It takes no memory.
+    pub fn unknown(&self, p: ReplicaId) -> Option<Reason>
+        ensures { result ≡ unknown self.now.world p }
+    {
+        self.state.unknown(p)
     }
 
     /// Why nothing is seen of the replica: it hasn't begun, or isn't up. It takes no memory.

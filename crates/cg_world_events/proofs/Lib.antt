@@ -2,6 +2,7 @@ mod Arriving
 mod CopiedParts
 mod FirstReasons
 mod HandFacts
+mod HandedOut
 mod LineFacts
 mod NotYetUp
 mod NodeFacts

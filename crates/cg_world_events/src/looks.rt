@@ -7,8 +7,8 @@ ghost use Rattle.cg_disk_records.specs.Holds.{Holds};
 ghost use Rattle.cg_model.specs.World.{running};
 ghost use Rattle.cg_world_events.specs.Calls.{creates_in, line_in, is_gone, knows_left, knows_server, shows, shows_weak, shows_dirty};
 
-use crate::node_state::NodeState;
 use crate::Node;
+use crate::node_state::NodeState;
 use cg_action::Query;
 use cg_base::{NoMemory, ReplicaId, Row};
 use cg_client::Core;

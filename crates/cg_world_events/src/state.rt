@@ -17,7 +17,7 @@ ghost use Rattle.cg_world_events.specs.StepInProgress.{said, hosted, fallen, wit
 ghost use Rattle.cg_world_events.specs.DiskOut.{GivesDisk};
 ghost use Rattle.cg_world_events.specs.Hosting.{with_left};
 
-use crate::admission::{hidden, takes_part};
+use crate::admission::{hidden, takes_part, unknown};
 use crate::made::MadeCut;
 use crate::nodes::Nodes;
 use crate::snapshot_counts::SnapshotCounts;
@@ -157,6 +157,13 @@ impl WorldState {
         ensures { result ≡ takes_part self.now p }
     {
         takes_part(self, p)
+    }
+
+    /// Why nothing can be asked of the replica at all: it hasn't begun. It takes no memory.
+    pub fn unknown(&self, p: ReplicaId) -> Option<Reason>
+        ensures { result ≡ unknown self.now p }
+    {
+        unknown(self, p)
     }
 
     /// Why nothing is seen of the replica: it hasn't begun, or isn't up. It takes no memory.

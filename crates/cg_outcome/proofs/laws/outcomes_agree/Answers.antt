@@ -2,6 +2,7 @@ use Rattle.cg_session.specs.Laws as sessions
 use Rattle.cg_outcome.specs.AskedLaws.{ExactLines}
 use Rattle.cg_outcome.specs.FurtherLaws.{AreExact}
 use Rattle.cg_outcome.specs.Outcome.{outcome}
+use Rattle.cg_outcome.proofs.EndedLines.{outcome-imaged}
 use Rattle.cg_outcome.proofs.RunFacts.{outcome-is_run, outcome-noted, outcome-of_run, outcome-agrees, outcome-guarantees}
 use Rattle.cg_outcome.proofs.RefusedLines.{outcome-refuses}
 use Rattle.cg_outcome.proofs.laws.outcomes_agree.Goals as goal
@@ -14,6 +15,9 @@ returns-clause-of_run c = λ taken how. outcome-of_run c.args.words.now taken ho
 
 pub returns-clause-compared : goal.returns-clause-compared
 returns-clause-compared c = λ taken how. c.joins_are_told.ensures (outcome c.args.words.now taken how).progress.logs
+
+pub returns-clause-imaged : goal.returns-clause-imaged
+returns-clause-imaged c = outcome-imaged c.args.words.now (exact c.lines_are_exact.ensures.event c.session_lines_are_exact.ensures)
 
 pub returns-clause-refused : goal.returns-clause-refused
 returns-clause-refused c = outcome-refuses c.args.words.now (exact c.lines_are_exact.ensures.event c.session_lines_are_exact.ensures)

@@ -1,4 +1,4 @@
-use Rattle.std.proofs.Common.{◌+◌, ◌<◌, Option, Some, ◌∙◌, arith}
+use Rattle.std.proofs.Common.{None, ◌+◌, ◌<◌, Option, Some, ◌∙◌, arith}
 use Rattle.std.specs.Option.{option_copied}
 use Rattle.cg_items.specs.declared.companion.Further.{Further}
 use Rattle.cg_items.specs.Companion.{Noted, follows}
@@ -21,12 +21,12 @@ returns-in-Ok-show_step-clause-counts g c = λ w event.
     let step : Step = record { event = event; entry = c.args.entry.now; world = c.args.world.now.world } in
     let noted : Noted = follows b.companion asked step in
     let item : Item = record { number = b.count + 1; further = asked; step = Some step; lines = noted.lines } in
-    let behind : Progress = record { world = c.args.world.now.world; companion = noted.companion; reader = b.reader; count = b.count + 1; totals = with_entry b.totals c.args.entry.now; logs = b.logs } in
+    let behind : Progress = record { world = c.args.world.now.world; companion = noted.companion; reader = b.reader; count = b.count + 1; totals = with_entry b.totals c.args.entry.now; logs = b.logs; replica = None } in
     let few : b.count < step_limit = omega arith in
     let goes = item-goes report n item behind (seen_beside w b) v v1 few (c.in-Ok-show_step.ensures.ok event) c.entry_is_short.ensures in
     let kept = c.in-Ok-show_step.ensures.kept event in
     let told = c.in-Ok.ensures in
-    (goes.0, (λ i. record { world = c.args.world.now.world; companion = kept i; reader = b.reader; count = b.count + 1; totals = told i; logs = b.logs }) ∙ goes.1, goes.2)
+    (goes.0, (λ i. record { world = c.args.world.now.world; companion = kept i; reader = b.reader; count = b.count + 1; totals = told i; logs = b.logs; replica = None }) ∙ goes.1, goes.2)
 
 pub returns-in-Err-clause-counts : goal.returns-in-Err-clause-counts
 returns-in-Err-clause-counts g c = λ w event.
@@ -39,6 +39,6 @@ returns-in-Err-clause-counts g c = λ w event.
     let step : Step = record { event = event; entry = c.args.entry.now; world = c.args.world.now.world } in
     let noted : Noted = follows b.companion asked step in
     let item : Item = record { number = b.count + 1; further = asked; step = Some step; lines = noted.lines } in
-    let behind : Progress = record { world = c.args.world.now.world; companion = noted.companion; reader = b.reader; count = b.count + 1; totals = with_entry b.totals c.args.entry.now; logs = b.logs } in
+    let behind : Progress = record { world = c.args.world.now.world; companion = noted.companion; reader = b.reader; count = b.count + 1; totals = with_entry b.totals c.args.entry.now; logs = b.logs; replica = None } in
     let few : b.count < step_limit = omega arith in
     item-stops report n item behind (seen_beside w b) v v1 c.in-Err.status few (c.in-Err.ensures.cut event)

@@ -6,7 +6,7 @@ use Rattle.cg_run.proofs.streaming.fail_stage.Goals as goal
 use Rattle.cg_outcome.specs.Stopping.{Stopped}
 
 pub returns : goal.returns
-returns g c =
+returns g c = λ held is.
     let st = seen_stage c.args.stage in
     subst (λ p. Stopped c.args.report p (g.K.Sink.view c.args.output.now) (g.K.Sink.view c.end_run.new.output) c.end_run.result)
-    (sym (from-held st c.args.held.now Failed c.requires.held.unended ∙ last-failed st.line st.at c.args.held.now st.progress c.requires.held.unpassed)) c.end_run.ensures
+    (sym (from-held st held Failed is.unended ∙ last-failed st.line st.at held st.progress is.unpassed)) c.end_run.ensures

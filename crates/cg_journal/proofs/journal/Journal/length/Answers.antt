@@ -4,8 +4,8 @@ use Rattle.cg_journal.specs.Held.{end_on}
 use Rattle.cg_journal.proofs.Appending.{ends_at}
 use Rattle.cg_journal.proofs.journal.Journal.length.Goals as goal
 
-pub returns-clause-end : goal.returns-clause-end
-returns-clause-end g c = λ r stands.
+pub returns : goal.returns
+returns g c = λ r stands.
     let side = c.args.side in
     let held = c.self.invariant in
     c.on.ensures
