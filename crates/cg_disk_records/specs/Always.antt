@@ -31,3 +31,7 @@ pub record AlwaysCounts : Type 0 where
 -- what a commit leaves has a checkpoint
 abbrev pub AlwaysSettled : Type 0
 AlwaysSettled = (h : Held) → Holds h → Agrees (stored_of (whiten h))
+
+-- what holds has a checkpoint
+abbrev pub AlwaysAgrees : Type 0
+AlwaysAgrees = (h : Held) → Holds h → Agrees (stored_of h)

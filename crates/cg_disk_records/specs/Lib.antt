@@ -21,3 +21,5 @@ pub mod ValueLaws
 pub mod Always
 pub mod Commit
 pub mod Crash
+pub mod Format
+pub mod Recovery

@@ -21,35 +21,24 @@ use Rattle.cg_journal.proofs.Reading.{reads_as}
 use Rattle.cg_journal.proofs.Adding.{same_front, gate_of_same, take_staged, torn_open, torn_shut, gate_written, length-framed, end_within}
 use Rattle.cg_journal.proofs.Both.{put_this, put_other, records_same, records_added}
 use Rattle.cg_journal.proofs.Fills.{left_clean, filled_gate, first_or, gate_range, is_gate, no_offsets}
-use Rattle.cg_journal.specs.ViewLaws.{some_state, unstruck_more}
+use Rattle.cg_journal.specs.ViewLaws.{some_state, struck_more, unstruck_more}
 
-gate_early : (blow : Blow) (call : ℕ) (fill : List ℕ) → call ≤ 2 → gate_stands blow call fill ≡ false
+pub gate_early : (blow : Blow) (call : ℕ) (fill : List ℕ) → call ≤ 2 → gate_stands blow call fill ≡ false
 gate_early Fails call fill early = grind (arith, nat_tests)
 gate_early Stops call fill early = grind (arith, nat_tests)
 
-pub struck_more : (old mid new : DiskView) → IsUnstruck old mid → old.time ≤ mid.time → IsStruck mid new → IsStruck old new
-struck_more old mid new first later second = record {
-  faults = omega (arith, first.faults, second.faults);
-  later = omega (arith, second.later);
-  reached = λ s is.
-      let armed : option_map (λ (x : DiskState). x.strike) mid.state ≡ Some s.strike = first.stays ∙ ap (option_map (λ (x : DiskState). x.strike)) is in
-      let next = some_state mid.state s.strike armed in
-      let found = second.reached next.0 next.1 in
-      (found.0, sym next.2 ∙ found.1, found.2);
-}
-
 -- what a told disk shows after a write
-shown_wrote : (side : Side) (offset : ℕ) (bytes : List ℕ) (s : DiskState) → shown (wrote side offset bytes s) ≡ put_on side offset bytes (shown s)
+pub shown_wrote : (side : Side) (offset : ℕ) (bytes : List ℕ) (s : DiskState) → shown (wrote side offset bytes s) ≡ put_on side offset bytes (shown s)
 shown_wrote A offset bytes s = refl
 shown_wrote B offset bytes s = refl
 
-clean_unsynced : (s : SideState) → s ≡ synced_side s → s.unsynced ≡ []
+pub clean_unsynced : (s : SideState) → s ≡ synced_side s → s.unsynced ≡ []
 clean_unsynced s clean = ap (λ (x : SideState). x.unsynced) clean
 
-clean_old : (s : SideState) → s ≡ synced_side s → s.old ≡ s.seen
+pub clean_old : (s : SideState) → s ≡ synced_side s → s.old ≡ s.seen
 clean_old s clean = ap (λ (x : SideState). x.old) clean
 
-one_range : (s e : SideState) (gate : ℕ) → s ≡ synced_side s → e ≡ wrote_side gate (1 ∷ []) s → e.unsynced ≡ gate_range gate
+pub one_range : (s e : SideState) (gate : ℕ) → s ≡ synced_side s → e ≡ wrote_side gate (1 ∷ []) s → e.unsynced ≡ gate_range gate
 one_range s e gate clean wrote_it = ap (λ (x : SideState). x.unsynced) wrote_it ∙ ap (λ (r : List Range). record { from = gate; to = gate + 1 } ∷ r) (clean_unsynced s clean)
 
 -- a side at rest on which one byte was written, and the fill of a crash
@@ -64,7 +53,7 @@ module _ (s e : SideState) (gate : ℕ) (fill : List ℕ) (clean : s ≡ synced_
       (omega (arith, long, length-append (take gate s.seen ++ (1 ∷ [])) (drop (gate + 1) s.seen), length-append (take gate s.seen) (1 ∷ []), length-take-le gate s.seen (omega arith)))
       ∙ ap (λ (l : List ℕ). first_or fill (get_or l gate 0)) stop_old
 
-stop_gate : (side : Side) (gate : ℕ) (s e : DiskState) (fill : List ℕ) → IsSynced s → e.a ≡ (wrote side gate (1 ∷ []) s).a → e.b ≡ (wrote side gate (1 ∷ []) s).b → gate < length (bytes_of side (shown s))
+pub stop_gate : (side : Side) (gate : ℕ) (s e : DiskState) (fill : List ℕ) → IsSynced s → e.a ≡ (wrote side gate (1 ∷ []) s).a → e.b ≡ (wrote side gate (1 ∷ []) s).b → gate < length (bytes_of side (shown s))
     → get_or (bytes_of side (left_by e fill)) gate 0 ≡ first_or fill (get_or (bytes_of side (shown s)) gate 0)
 stop_gate A gate s e fill clean a b inside = stop_byte s.a e.a gate fill clean.0 a inside
 stop_gate B gate s e fill clean a b inside =

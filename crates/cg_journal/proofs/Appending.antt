@@ -12,13 +12,12 @@ use Rattle.cg_journal.specs.Closes.{IsClosed}
 use Rattle.cg_journal.specs.declared.journal.AppendErr.{AppendErr}
 use Rattle.cg_journal.specs.declared.journal.AppendErr.TheVariants.{Lost, NoMemory}
 use Rattle.cg_journal.proofs.Both.{records_emptied}
-use Rattle.cg_journal.proofs.AddSteps.{struck_more}
 use Rattle.cg_journal.specs.Adds.{IsLostIn, IsAdded, IsNotAdded}
 use Rattle.cg_journal.specs.Held.{end_of, end_on, with_end, EndsAt, IsJournal}
 use Rattle.cg_journal.specs.Answers.{CanBeRead, with_record, without_records, with_record_alone, IsDone, IsRefused, IsLostAppend, IsLostRestart, Appends, Restarts}
 use Rattle.cg_journal.specs.declared.ends.Ends.{Ends}
 use Rattle.cg_journal.proofs.Reading.{reads_as}
-use Rattle.cg_journal.specs.ViewLaws.{some_state, unstruck_more}
+use Rattle.cg_journal.specs.ViewLaws.{some_state, struck_more, unstruck_more}
 
 -- the bodies of one side
 bodies_on : (a b : Option (List (List ℕ))) (r : Records) → both a b ≡ Some r → (a ≡ Some r.a) × (b ≡ Some r.b)

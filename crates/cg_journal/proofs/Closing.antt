@@ -54,12 +54,12 @@ gate_closed : (side : List ℕ) → BeginsOpen side → HasRecords (overwritten 
 gate_closed side begins = closed_behind (overwritten side 8 (0 ∷ [])) begins.rest 0 (ap (λ (l : List ℕ). take 8 l ++ (0 ∷ []) ++ drop 9 l) begins.is) (λ is_one. absurd (omega arith))
 
 -- nothing torn, nothing written
-nothing_torn : (side c : List ℕ) (offset : ℕ) → offset ≤ length side → Torn offset 0 side c → c ≡ side
+pub nothing_torn : (side c : List ℕ) (offset : ℕ) → offset ≤ length side → Torn offset 0 side c → c ≡ side
 nothing_torn side c offset inside torn =
     let same : drop offset c ≡ drop offset side = (let e : offset + 0 ≡ offset = omega arith in ap (λ n. drop n c) (sym e) ∙ torn.after ∙ ap (λ n. drop n side) e) in
     sym (take-append-drop offset c) ∙ (λ i. torn.before i ++ same i) ∙ take-append-drop offset side
 
-nothing_written : (side : List ℕ) (offset : ℕ) → overwritten side offset [] ≡ side
+pub nothing_written : (side : List ℕ) (offset : ℕ) → overwritten side offset [] ≡ side
 nothing_written side offset = (let e : offset + 0 ≡ offset = omega arith in ap (λ n. take offset side ++ [] ++ drop n side) e) ∙ ap (λ (l : List ℕ). l ++ drop offset side) (append-nil (take offset side)) ∙ take-append-drop offset side
 
 -- what is written is nothing where the gate is closed, or a closed gate

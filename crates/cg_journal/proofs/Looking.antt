@@ -6,7 +6,8 @@ use Rattle.cg_disk.specs.View.{DiskView, IsView}
 use Rattle.cg_disk.specs.Calls as calls
 use Rattle.cg_journal.specs.Strikes.{IsUnstruck, IsStruck}
 use Rattle.cg_journal.specs.Reads.{IsReadOnly, IsReadStruck}
-use Rattle.cg_journal.proofs.Moments.{started, goes_on, armed_at, ahead_of}
+use Rattle.cg_journal.proofs.Moments.{goes_on, armed_at}
+use Rattle.cg_journal.specs.ViewLaws.{ahead_of, started}
 
 -- a call that isn't struck and leaves the strike as it is
 pub passes_unstruck : (done : DiskState → DiskState) → ((s : DiskState) → (done s).strike ≡ s.strike) → (old new : DiskView) → IsView new → calls.Passes done old new → IsUnstruck old new
@@ -42,5 +43,5 @@ module _ (old new : DiskView) (is_old : IsView old) (is_new : IsView new) (looks
     moments = goes_on old old new old.may_leave (started old old.may_leave is_old (λ c left. left)) looks.elapses later looks.images;
   }
 
-  struck_look : (cut : DiskState → DiskState) → calls.Fails cut old new → IsReadStruck 1 old new
-  struck_look cut fails = record { only = read_only (omega (arith, fails.time)); time = omega (arith, fails.time); struck = fails_struck cut old new fails }
+  struck_look : (cut : DiskState → DiskState) → calls.Fails cut old new → calls.HasImages new → IsReadStruck 1 old new
+  struck_look cut fails has = record { has = has; only = read_only (omega (arith, fails.time)); time = omega (arith, fails.time); struck = fails_struck cut old new fails }

@@ -11,7 +11,8 @@ use Rattle.cg_disk.specs.declared.disk.Side.TheVariants.{A, B}
 use Rattle.cg_disk.specs.declared.disk.DiskFault.{DiskFault}
 use Rattle.cg_disk.specs.declared.disk.DiskFault.TheVariants.{Failed, NoMemory}
 use Rattle.cg_journal.specs.Put.{put_on, IsPut, IsCut, CutBy, IsKept, Puts}
-use Rattle.cg_journal.proofs.Moments.{started, goes_on, torn_side_same, armed_at, ahead_of}
+use Rattle.cg_journal.proofs.Moments.{goes_on, torn_side_same, armed_at}
+use Rattle.cg_journal.specs.ViewLaws.{ahead_of, started}
 
 -- a write leaves the strike as it is
 pub wrote_strike : (side : Side) (offset : ℕ) (bytes : List ℕ) (s : DiskState) → (wrote side offset bytes s).strike ≡ s.strike

@@ -9,4 +9,11 @@ pub mod Answers
 pub mod Reads
 pub mod Fresh
 pub mod Opens
+pub mod Found
+pub mod Heads
+pub mod Renews
+pub mod Clears
+pub mod FoundLaws
+pub mod Migrates
+pub mod OpensMixed
 pub mod ViewLaws

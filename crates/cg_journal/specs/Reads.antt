@@ -2,6 +2,7 @@
 use Rattle.std.specs.Prelude.{◌≡◌, ℕ, ◌+◌, ◌≤◌, Result, Ok, Err}
 use Rattle.cg_disk.specs.Sides.{Image}
 use Rattle.cg_disk.specs.View.{DiskView, IsAtRest, LeavesOnly}
+use Rattle.cg_disk.specs.Calls.{HasImages}
 use Rattle.cg_disk.specs.declared.disk.DiskFault.{DiskFault}
 use Rattle.cg_disk.specs.declared.disk.DiskFault.TheVariants.{Failed, NoMemory}
 use Rattle.cg_journal.specs.Strikes.{IsUnstruck, IsStruck}
@@ -22,6 +23,7 @@ pub record IsReadStruck (calls : ℕ) (old new : DiskView) : Type 0 where
   pub only : IsReadOnly old new
   pub time : new.time ≤ old.time + calls
   pub struck : IsStruck old new
+  pub has : HasImages new
 
 pub record IsReadRefused (calls : ℕ) (old new : DiskView) : Type 0 where
   pub only : IsReadOnly old new

@@ -1,7 +1,9 @@
 //! The bodies of a side's records, where they stand.
-ghost use Rattle.std.specs.Prelude.{◌≡◌, ◌+◌, ◌≤◌, length};
+ghost use Rattle.std.specs.Prelude.{◌≡◌, ◌+◌, ◌≤◌, length, [], ◌∷◌, ◌++◌, OnOk};
 ghost use Rattle.cg_journal.specs.Bodies.{body_at, bodies_at, AreWithin};
 
+use cg_base::NoMemory;
+use std::alloc::Global;
 use std::marker::Model;
 
 /// Where a body stands among the bytes of its side.
@@ -44,6 +46,29 @@ impl Bodies {
         ensures { result ≡ bodies_at side.items spans.items }
     {
         Bodies { side, spans }
+    }
+
+    /// No bodies.
+    pub fn empty(alloc: Global) -> Bodies
+        ensures { result ≡ [] }
+    {
+        Bodies {
+            side: Vec::new(alloc),
+            spans: Vec::new(alloc),
+        }
+    }
+
+    /// A body behind the others. After an error there may be any bodies.
+    pub fn push(&mut self, body: &[u8]) -> Result<(), NoMemory>
+        ensures { OnOk result (self.new ≡ self.old ++ body.now ∷ []) }
+    {
+        let start = self.side.len();
+        self.side.extend_from_slice(body)?;
+        self.spans.push(Span {
+            start,
+            size: body.len(),
+        })?;
+        Ok(())
     }
 
     pub fn len(&self) -> usize

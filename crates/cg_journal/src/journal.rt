@@ -53,7 +53,7 @@ impl<D: Disk> Journal<D> {
     ghost use Rattle.cg_journal.specs.Answers.{CanBeRead, Appends, Restarts, ClosesSide, EachMoment, IsRestarting, with_record, without_records};
     ghost use Rattle.cg_journal.specs.Adds.{IsEither};
     ghost use Rattle.cg_journal.specs.Opens.{Formats, Opens};
-    ghost use Rattle.cg_journal.specs.Held.{end_of};
+    ghost use Rattle.cg_journal.specs.Held.{IsJournal, end_of};
     ghost use Rattle.cg_journal.specs.Records.{Records, on_side};
     ghost use Rattle.cg_disk.specs.Calls.{Begins};
     ghost use Rattle.std.specs.Prelude.{Some};
@@ -100,6 +100,14 @@ impl<D: Disk> Journal<D> {
             Ok(None) => Err(JournalOpen::NotAJournal(disk)),
             Err(_) => Err(JournalOpen::NoMemory(disk)),
         }
+    }
+
+    // The journal of a disk whose records end at these offsets.
+    pub(crate) fn of(disk: D, ends: Ends) -> Journal<D>
+        requires { IsJournal (D.view disk) ends }
+        ensures { result ≡ disk }
+    {
+        Journal { disk, ends }
     }
 
     /// Adds a record on a side, in four device calls.

@@ -9,15 +9,22 @@
 mod add;
 mod bodies;
 mod close;
+mod either;
 mod ends;
 mod format;
 mod framed;
+mod heads;
 mod journal;
 mod load;
+mod migrate;
+mod mixed;
+mod older;
 mod open;
 mod parse;
 mod put;
 
 pub use bodies::Bodies;
 pub use journal::{AppendErr, Journal};
-pub use open::{FormatErr, JournalOpen};
+pub use mixed::MixedJournal;
+pub use older::make_old;
+pub use open::{FormatErr, JournalOpen, MigrateErr, SideRecords};

@@ -1,4 +1,4 @@
-use crate::journal::Journal;
+use crate::bodies::Bodies;
 use cg_disk::Disk;
 use std::fmt;
 use std::fmt::{Display, Formatter, Write};
@@ -12,12 +12,30 @@ pub enum FormatErr<D: Disk> {
     NoMemory(D),
 }
 
+/// What ended the going over of a side to the newer format.
+#[derive(Drop)]
+pub enum MigrateErr<D: Disk> {
+    /// A device call failed.
+    Lost(D),
+    /// Memory was refused, and no device call failed.
+    NoMemory(D),
+}
+
+/// What is found on a side: its format, 1 for the older one, 2 for the newer one, and 0 for none; and the bodies of its
+/// records, none where it has no format.
+#[derive(Drop)]
+pub struct SideRecords {
+    pub version: u8,
+    pub bodies: Bodies,
+}
+
 /// What ended the opening of a journal.
 #[derive(Drop)]
 pub enum JournalOpen<D: Disk> {
     /// A device call failed.
     Lost(D),
-    /// A side is shorter than nine bytes, lacks the header, or ends in a record that doesn't fit.
+    /// A side is shorter than nine bytes, or ends in a record that doesn't fit; or the header is lacking, on both sides
+    /// where either format is opened.
     NotAJournal(D),
     /// Memory was refused. What a read gives is as it was.
     NoMemory(D),
@@ -28,6 +46,15 @@ impl<D: Disk> Display for FormatErr<D> {
         match self {
             FormatErr::Lost(_) => f.write_str("a device call failed"),
             FormatErr::NoMemory(_) => f.write_str("memory was refused"),
+        }
+    }
+}
+
+impl<D: Disk> Display for MigrateErr<D> {
+    fn fmt<W: Write>(&self, f: &mut Formatter<W>) -> fmt::Result {
+        match self {
+            MigrateErr::Lost(_) => f.write_str("a device call failed"),
+            MigrateErr::NoMemory(_) => f.write_str("memory was refused"),
         }
     }
 }

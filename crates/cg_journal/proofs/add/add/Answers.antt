@@ -4,10 +4,9 @@ use Rattle.cg_disk.specs.Writes.{TornSide}
 use Rattle.cg_journal.specs.Records.{records, added}
 use Rattle.cg_journal.specs.Put.{IsPut, Puts}
 use Rattle.cg_journal.specs.Adds.{IsEither}
-use Rattle.cg_journal.proofs.Moments.{chained}
 use Rattle.cg_journal.proofs.AddSteps.{add_failed, add_done, first_either, second_either}
 use Rattle.cg_journal.proofs.add.add.Goals as goal
-use Rattle.cg_journal.specs.ViewLaws.{weakened}
+use Rattle.cg_journal.specs.ViewLaws.{chained, weakened}
 
 pub returns-in-Ok-clause-adds : goal.returns-in-Ok-clause-adds
 returns-in-Ok-clause-adds g c = λ bodies body has is short.
