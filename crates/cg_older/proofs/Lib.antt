@@ -1,0 +1,9 @@
+mod Light
+mod Heavy
+mod HeavyNames
+mod ServerFields
+mod StableFields
+mod ListFields
+mod ChangeFields
+mod CheckpointFields
+mod StandingLaws

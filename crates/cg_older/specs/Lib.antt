@@ -1,0 +1,4 @@
+pub mod Weights
+pub mod Bytes
+pub mod Reading
+pub mod Older
