@@ -1,5 +1,5 @@
 -- The record of a checkpoint is read as the state that it was made of.
-use Rattle.std.proofs.Common.{◌≡◌, ℕ, suc, List, Option, Some, refl, sym, ◌∙◌, ap, lit<}
+use Rattle.std.proofs.Common.{◌≡◌, ℕ, suc, List, Option, Some, Result, Ok, Err, IfOk, refl, sym, ◌∙◌, ap, lit<}
 use Rattle.cg_journal.specs.Records.{Records}
 use Rattle.cg_records.specs.Limits.{IsNumber}
 use Rattle.cg_client.specs.Replica.{Held}
@@ -9,6 +9,8 @@ use Rattle.cg_disk_records.specs.Limits.{IsStored}
 use Rattle.cg_disk_records.specs.Parts.{checkpoint_in}
 use Rattle.cg_disk_records.specs.Laws.{IsCheckpoint}
 use Rattle.cg_disk_records.specs.Agreeing.{Agrees}
+use Rattle.cg_disk_records.specs.Always.{AlwaysAgrees}
+use Rattle.cg_store.specs.Opening.{IsSound}
 use Rattle.cg_store.specs.Stands.{OnDisk, stands_for}
 use Rattle.cg_store.specs.Calls.{IsSaved}
 use Rattle.cg_store.proofs.Owner.{standing-id}
@@ -21,7 +23,7 @@ pub same_spelling : (generation : ℕ) (h : Held) → spelled_checkpoint generat
 unfolding spelled_checkpoint
 same_spelling generation h = refl
 
-stored_still : (h : Held) → IsStored h → IsStored (stored_of h)
+pub stored_still : (h : Held) → IsStored h → IsStored (stored_of h)
 stored_still h is = record {
   id = is.id;
   stable = is.stable;
@@ -54,3 +56,14 @@ same_bytes u h held bytes is = is ∙ sym (same_spelling (suc u.generation) h) �
 
 pub first_saved : ReadsAgain → (id : ℕ) (h : Held) → h.id ≡ id → (bytes : List ℕ) → bytes ≡ spelled_checkpoint 1 h → IsStored h → Agrees (stored_of h) → IsSaved id bytes (stored_of h)
 first_saved again id h same bytes is within agrees = read_again again id 1 h same bytes is (lit< tt) within agrees
+
+-- what is kept in memory alone is empty already
+still : (h : Held) → IsSound h → stored_of h ≡ h
+still h sound = λ i. record h { buffered = sym sound.buffered i; owed = sym sound.owed i }
+
+pub saved_again : ReadsAgain → AlwaysAgrees → (h : Held) → IsSound h → (generation : ℕ) → IsNumber generation → {X E : Type 0} (items : X → List ℕ) (r : Result X E) →
+    IfOk r (λ bytes. items bytes ≡ spelled_checkpoint generation h) → IfOk r (λ bytes. IsStored h) → IfOk r (λ bytes. checkpoint_in h.id (items bytes) ≡ Some (record { generation = generation; content = h }))
+saved_again again agree h sound generation small items (Ok bytes) spelled within =
+    read_again again h.id generation h refl (items bytes) spelled small within (agree h sound.holds)
+    ∙ ap (λ (s : Stored). Some (record { generation = generation; content = s })) (still h sound)
+saved_again again agree h sound generation small items (Err fault) spelled within = tt

@@ -13,4 +13,11 @@ mod Sound
 mod Chosen
 mod Appending
 mod Checkpointing
+mod Versions
+mod Runs
+mod Clearing
+mod MovingOver
+mod Settled
 mod Opened
+mod Translating
+mod MakingOld

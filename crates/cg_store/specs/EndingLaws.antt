@@ -18,26 +18,9 @@ use Rattle.cg_store.specs.MomentLaws.{stands_once, moments_joined}
 use Rattle.cg_store.specs.declared.outputs.Outputs.{Outputs}
 use Rattle.cg_store.specs.declared.errors.CommitErr.{CommitErr}
 use Rattle.cg_store.specs.declared.errors.CommitErr.TheVariants.{Lost, NoMemory}
-use Rattle.cg_journal.specs.ViewLaws.{some_state, unstruck_more}
+use Rattle.cg_journal.specs.ViewLaws.{still_armed, struck_more, unstruck_more}
 
 -- ---- calls behind earlier ones
-
--- the strike of the state that a disk tells later
-same_strike : (old mid : DiskView) (s : DiskState) → IsUnstruck old mid → old.state ≡ Some s →
-    (t : DiskState) × (mid.state ≡ Some t) × (t.strike ≡ s.strike)
-same_strike old mid s first is =
-    some_state mid.state s.strike (first.stays ∙ ap (option_map (λ (x : DiskState). x.strike)) is)
-
-pub struck_more : (old mid new : DiskView) → IsUnstruck old mid → old.time ≤ mid.time →
-    IsStruck mid new → IsStruck old new
-struck_more old mid new first later second = record {
-  faults = omega (arith, first.faults, second.faults);
-  later = omega (arith, second.later);
-  reached = λ s is.
-      let next = same_strike old mid s first is in
-      let found = second.reached next.0 next.1 in
-      (found.0, sym next.2 ∙ found.1, found.2);
-}
 
 -- a strike in calls behind earlier ones
 pub lost_later : (id calls earlier : ℕ) (u v : OnDisk) (old mid new : DiskView) → IsUnstruck old mid →
@@ -54,7 +37,7 @@ lost_later id calls earlier u v old mid new first time lost = record {
   last = lost.last;
   reads = lost.reads;
   told = λ s e old_is new_is.
-      let next = same_strike old mid s first old_is in
+      let next = still_armed old mid first s old_is in
       let cut = lost.told next.0 e next.1 new_is in
       record { strike = cut.strike; armed = sym next.2 ∙ cut.armed; fills = cut.fills };
 }

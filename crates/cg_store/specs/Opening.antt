@@ -1,10 +1,10 @@
 -- How a disk is opened.
 use Rattle.std.specs.Prelude.{◌≡◌, ℕ, nat_lt, Bool, true, false, List, [], ◌∷◌, drop, Option, Some, None, Result, Ok, Err, if◌then◌else◌}
-use Rattle.cg_disk.specs.View.{DiskView}
+use Rattle.cg_disk.specs.View.{DiskView, LeavesOnly}
 use Rattle.cg_disk.specs.declared.disk.Side.{Side}
 use Rattle.cg_disk.specs.declared.disk.Side.TheVariants.{A, B}
-use Rattle.cg_journal.specs.Records.{Records, records, on_side}
-use Rattle.cg_journal.specs.Reads.{IsRead, IsReadStruck, IsReadRefused}
+use Rattle.cg_journal.specs.Records.{Records, on_side}
+use Rattle.cg_journal.specs.Reads.{IsRead}
 use Rattle.cg_records.specs.Limits.{IsNumber}
 use Rattle.cg_client.specs.Replica.{Held}
 use Rattle.cg_disk_records.specs.Stored.{Stored, stable_of}
@@ -12,7 +12,11 @@ use Rattle.cg_disk_records.specs.Parts.{Saved, saved_in, stored_in, checkpoint_i
 use Rattle.cg_disk_records.specs.Laws.{AreSaved}
 use Rattle.cg_disk_records.specs.declared.checkpoint.Checkpoint.{Checkpoint}
 use Rattle.cg_disk_records.specs.Holds.{Holds}
-use Rattle.cg_store.specs.Stands.{Live, live_from, OnDisk, standing_on, Stands, stands_for, standing_in, led_by_all}
+use Rattle.cg_disk_records.specs.Recovery.{recovery_calls}
+use Rattle.cg_store.specs.Stands.{Live, live_from, standing_on, standing_in, led_by_all}
+use Rattle.cg_store.specs.Formats.{Standing, StandsFor, standing_on_disk, opened}
+use Rattle.cg_store.specs.Answers.{IsReached}
+use Rattle.cg_store.specs.Migrating.{IsLostOpening, IsOpening, IsOpeningRefused}
 use Rattle.cg_store.specs.StoreState.{StoreState}
 use Rattle.cg_store.specs.declared.finding.OpenedSide.{OpenedSide}
 use Rattle.cg_store.specs.declared.finding.SideFront.{SideFront}
@@ -89,32 +93,25 @@ abbrev pub Finds : ℕ → Records → Option OpenedSide → Type 0
 Finds id r None = standing_in id r ≡ None
 Finds id r (Some f) = IsFound id r f
 
--- the same with the store of the journal that has them
-abbrev pub Resumes : {D : Type 0} → ℕ → D → Records → Result (StoreState D × Held) (OpenErr D) → Type 0
-Resumes id journal r (Ok opened) = (u : OnDisk) × (standing_in id r ≡ Some u) × (opened.1 ≡ u.content)
-    × (opened.0 ≡ record { disk = journal; id = id; unwritten = [] }) × IsSound u.content
-Resumes id journal r (Err (Lost disk)) = ⊥
-Resumes id journal r (Err (NotAStore disk)) = (disk ≡ journal) × (standing_in id r ≡ None)
-Resumes id journal r (Err (NoMemory disk)) = disk ≡ journal
-
--- the store of a disk that stands for a state, and the core that holds it
+-- the store of a disk that stands for a state, and the core that holds it. The disk has gone over to the newer format
 pub record IsOpened {D : Type 0} (view : D →
     DiskView) (id : ℕ) (old : DiskView) (store : StoreState D) (core : Held) : Type 0 where
-  pub standing : OnDisk
-  pub stands : Stands id old.reads standing
-  pub core_is : core ≡ standing.content
-  pub sound : IsSound standing.content
+  pub standing : Standing
+  pub stands : StandsFor id old.reads standing
+  pub core_is : core ≡ standing.on.content
+  pub sound : IsSound standing.on.content
   pub id_is : store.id ≡ id
   pub unwritten : store.unwritten ≡ []
-  pub read : IsRead 5 old (view store.disk)
+  pub reached : IsReached id (recovery_calls standing.format) (opened standing) old (view store.disk)
+  pub moments : LeavesOnly old (view store.disk) (IsOpening id old)
 
 -- the disk stands for no state of this replica
 pub record IsNoStore (id : ℕ) (old new : DiskView) : Type 0 where
-  pub stands_for_none : stands_for id (records old.reads) ≡ None
+  pub stands_for_none : standing_on_disk id old.reads ≡ None
   pub read : IsRead 5 old new
 
 abbrev pub OpensStore : {D : Type 0} → (D → DiskView) → ℕ → DiskView → Result (StoreState D × Held) (OpenErr D) → Type 0
 OpensStore view id old (Ok opened) = IsOpened view id old opened.0 opened.1
-OpensStore view id old (Err (Lost disk)) = IsReadStruck 5 old (view disk)
+OpensStore view id old (Err (Lost disk)) = IsLostOpening id old (view disk)
 OpensStore view id old (Err (NotAStore disk)) = IsNoStore id old (view disk)
-OpensStore view id old (Err (NoMemory disk)) = IsReadRefused 5 old (view disk)
+OpensStore view id old (Err (NoMemory disk)) = IsOpeningRefused id old (view disk)

@@ -6,6 +6,9 @@
 //! record's gate decides. A checkpoint changes no state. What an event gives out (`Outputs`) is had from its commit alone.
 //! When to commit what, and what comes of a crash, is left to the engine above.
 //!
+//! A disk of the older format goes over to the newer one as it is opened (`specs/Formats.antt`, `specs/Migrating.antt`): at
+//! each moment every image stands for the same state, so all behind an opening knows the newer format alone.
+//!
 //! A store is made, and its replica comes up with what the disk stands for, as in
 //! `crates/cg_replica_tests/src/store.rt`:
 //!
@@ -36,6 +39,7 @@ mod errors;
 mod finding;
 mod last_values;
 mod laws;
+mod older;
 mod outputs;
 mod pending_record;
 mod rebuild;
@@ -43,6 +47,7 @@ mod records;
 mod replay;
 mod resuming;
 mod sealing;
+mod settling;
 mod store;
 mod unwritten;
 mod values;

@@ -1,18 +1,22 @@
 //! A replica's store, and the calls that write.
 ghost use Rattle.std.specs.Prelude.{◌≡◌, ◌+◌, ◌<◌, ◌≤◌, suc, nat_lt};
-ghost use Rattle.std.specs.Prelude.{IfOk, OnOk, length};
+ghost use Rattle.std.specs.Prelude.{IfOk, OnOk, length, false};
 ghost use Rattle.cg_base.specs.declared.limits.TheConstants.{COUNT_LIMIT, LIST_LIMIT};
 ghost use Rattle.cg_disk_records.specs.Stored.{stable_of};
 ghost use Rattle.cg_disk_records.specs.Checkpoint.{spelled_checkpoint};
 ghost use Rattle.cg_disk_records.specs.Limits.{IsStored};
 ghost use Rattle.cg_store.specs.Calls.{paired as answer_with, commit_fault as fault_of};
+ghost use Rattle.cg_store.specs.Migrating.{format_fault};
+ghost use Rattle.cg_store.specs.ComingUp.{move_fault, read_fault};
 ghost use Rattle.cg_client.specs.Drafts.{turn_with};
 ghost use Rattle.cg_client.specs.Replica.{State};
 
-use crate::finding::{OpenedSide, find, other};
+use crate::finding::{OpenedSide, other};
+use crate::older::find_on;
 use crate::pending_record::{PendingRecord, prepare};
 use crate::records::checkpoint_record;
 use crate::sealing::seal_all;
+use crate::settling::{Settled, settle};
 use crate::unwritten::Unwritten;
 use crate::{CommitErr, OpenErr, Outputs};
 use cg_action::ActionList;
@@ -21,7 +25,10 @@ use cg_client::{Core, Draft, DraftParts};
 use cg_disk::{Disk, ModelDisk, Side};
 use cg_disk_records::{CHECKPOINT_BYTES, changes_are_exact, checkpoints_are_exact};
 use cg_encoded::EncodedMsg;
-use cg_journal::{AppendErr, Bodies, FormatErr, Journal, JournalOpen};
+use cg_journal::{
+    AppendErr, FormatErr, Journal, JournalOpen, MigrateErr, MixedJournal, SideRecords, make_old,
+};
+use cg_older::{old_checkpoint, old_checkpoints_are_exact};
 use cg_records::Stable;
 use std::alloc::Global;
 use std::marker::Model;
@@ -62,6 +69,15 @@ impl<D: Disk> Model for Store<D> {
     ghost invariant = { λ s. IsStore (D.view s.journal) s.id s.side s.generation s.values };
 }
 
+fn format_fault<D: Disk>(fault: FormatErr<D>) -> CommitErr<D>
+    ensures { result ≡ format_fault fault }
+{
+    match fault {
+        FormatErr::Lost(disk) => CommitErr::Lost(disk),
+        FormatErr::NoMemory(disk) => CommitErr::NoMemory(disk),
+    }
+}
+
 // What the first record has, and its bytes.
 fn first_record(alloc: Global, core: &Core) -> Result<(Stable, Vec<u8>), NoMemory>
     ensures values { IfOk result (λ r. r.0 ≡ stable_of core.now) }
@@ -80,6 +96,25 @@ fn commit_fault<D: Disk>(fault: AppendErr<D>) -> CommitErr<D>
     match fault {
         AppendErr::Lost(disk) => CommitErr::Lost(disk),
         AppendErr::NoMemory(journal) => CommitErr::NoMemory(journal.into_disk()),
+    }
+}
+
+fn read_fault<D: Disk>(fault: JournalOpen<D>) -> OpenErr<D>
+    ensures { result ≡ read_fault fault }
+{
+    match fault {
+        JournalOpen::Lost(disk) => OpenErr::Lost(disk),
+        JournalOpen::NotAJournal(disk) => OpenErr::NotAStore(disk),
+        JournalOpen::NoMemory(disk) => OpenErr::NoMemory(disk),
+    }
+}
+
+fn move_fault<D: Disk>(fault: MigrateErr<D>) -> OpenErr<D>
+    ensures { result ≡ move_fault fault }
+{
+    match fault {
+        MigrateErr::Lost(disk) => OpenErr::Lost(disk),
+        MigrateErr::NoMemory(disk) => OpenErr::NoMemory(disk),
     }
 }
 
@@ -116,7 +151,12 @@ impl<D: Disk> Store<D> {
     ghost use Rattle.cg_store.specs.Answers.{EachMoment};
     ghost use Rattle.cg_store.specs.Due.{IsReady, IsLed, IsBehind, WhetherDue};
     ghost use Rattle.cg_disk.specs.View.{IsAtRest};
-    ghost use Rattle.cg_store.specs.Opening.{Resumes, OpensStore};
+    ghost use Rattle.cg_journal.specs.Found.{sides};
+    ghost use Rattle.cg_store.specs.Opening.{OpensStore};
+    ghost use Rattle.cg_older.specs.Older.{has_weights};
+    ghost use Rattle.cg_store.specs.ComingUp.{ComesUp};
+    ghost use Rattle.cg_store.specs.Migrating.{MakesOld};
+    ghost use Rattle.cg_store.specs.Settling.{IsAtHand};
     ghost use Rattle.cg_store.specs.Calls.{Creates, Writes, Commits, KeepsMarks, Keeps, Moves, IsEither, IsSaved, IsFirst, Begins};
 
     /// Ends an event: what it changes of what stands on the disk is written in four device calls, with the white count
@@ -344,6 +384,26 @@ impl<D: Disk> Store<D> {
         }
     }
 
+    /// A new disk of the older format, which stands for what the core holds, in seven device calls. No weight above 1 may
+    /// stand in it. After an error the disk may be no store.
+    pub fn create_old(disk: D, core: &Core) -> Result<D, CommitErr<D>>
+        requires calls { (D.view disk).time + 7 ≤ COUNT_LIMIT }
+        requires agrees { Agrees (stored_of core.now) }
+        requires weights { has_weights core.now ≡ false }
+        ensures { MakesOld D.view core.now.id (stored_of core.now) (D.view disk) result }
+    {
+        old_checkpoints_are_exact();
+        let alloc = core.alloc();
+        let body = match old_checkpoint(alloc, core) {
+            Ok(body) => body,
+            Err(_) => return Err(CommitErr::NoMemory(disk)),
+        };
+        match make_old(alloc, disk, &body) {
+            Ok(disk) => Ok(disk),
+            Err(fault) => Err(format_fault(fault)),
+        }
+    }
+
     fn format(
         alloc: Global,
         disk: D,
@@ -390,40 +450,63 @@ impl<D: Disk> Store<D> {
         }
     }
 
-    /// Opens the disk of a replica, in five device calls, with what it held at its last commit. `NotAStore` says that the
-    /// disk stands for no state of this replica.
+    /// Opens the disk of a replica, with what it held at its last commit. A disk of the older format goes over to the newer
+    /// one. `NotAStore` says that the disk stands for no state of this replica.
     pub fn open(alloc: Global, disk: D, id: ReplicaId) -> Result<(Store<D>, Core), OpenErr<D>>
-        requires { (D.view disk).time + 5 ≤ COUNT_LIMIT }
+        requires { (D.view disk).time + 16 ≤ COUNT_LIMIT }
         ensures { OpensStore D.view id (D.view disk) result }
     {
-        match Journal::open(alloc, disk) {
-            Ok((journal, a, b)) => Store::open_journal(alloc, journal, id, &a, &b),
-            Err(JournalOpen::Lost(disk)) => Err(OpenErr::Lost(disk)),
-            Err(JournalOpen::NotAJournal(disk)) => Err(OpenErr::NotAStore(disk)),
-            Err(JournalOpen::NoMemory(disk)) => Err(OpenErr::NoMemory(disk)),
+        match MixedJournal::open(alloc, disk) {
+            Ok((journal, a, b)) => Store::open_sides(alloc, journal, id, a, b),
+            Err(fault) => Err(read_fault(fault)),
         }
     }
 
-    // The store of a journal with these records.
-    fn open_journal(
+    // The store of a disk on whose sides this was found.
+    fn open_sides(
         alloc: Global,
-        journal: Journal<D>,
+        journal: MixedJournal<D>,
         id: ReplicaId,
-        a: &Bodies,
-        b: &Bodies,
+        a: SideRecords,
+        b: SideRecords,
     ) -> Result<(Store<D>, Core), OpenErr<D>>
-        requires records { records (D.view journal).reads ≡ Some (record { a = a.now; b = b.now }) }
+        requires calls { (D.view journal).time + 11 ≤ COUNT_LIMIT }
+        requires found { sides (D.view journal).reads ≡ Some (record { a = a; b = b }) }
         requires rest { IsAtRest (D.view journal) }
-        ensures { Resumes id journal (record { a = a.now; b = b.now }) result }
+        ensures { ComesUp D.view id journal result }
     {
-        match find(alloc, id, a, b) {
-            Ok(Some(found)) => {
-                let OpenedSide {
+        let version_a = a.version;
+        let version_b = b.version;
+        match find_on(alloc, id, a, b) {
+            Ok(Some(found)) => Store::come_up(alloc, journal, id, found, version_a, version_b),
+            Ok(None) => Err(OpenErr::NotAStore(journal.into_disk())),
+            Err(_) => Err(OpenErr::NoMemory(journal.into_disk())),
+        }
+    }
+
+    // The store of a disk that stands for what was found, and whose sides are of these versions.
+    fn come_up(
+        alloc: Global,
+        journal: MixedJournal<D>,
+        id: ReplicaId,
+        found: OpenedSide,
+        a: u8,
+        b: u8,
+    ) -> Result<(Store<D>, Core), OpenErr<D>>
+        requires calls { (D.view journal).time + 11 ≤ COUNT_LIMIT }
+        requires found { IsAtHand found a b (D.view journal) }
+        requires values { found.values ≡ stable_of found.core }
+        requires owner { found.core.id ≡ id }
+        ensures { ComesUp D.view id journal result }
+    {
+        match settle(alloc, journal, &found, a, b) {
+            Ok(settled) => {
+                let Settled {
+                    journal,
                     side,
                     generation,
-                    values,
-                    core,
-                } = found;
+                } = settled;
+                let OpenedSide { values, core, .. } = found;
                 let store = Store {
                     journal,
                     id,
@@ -434,8 +517,10 @@ impl<D: Disk> Store<D> {
                 };
                 Ok((store, core))
             }
-            Ok(None) => Err(OpenErr::NotAStore(journal.into_disk())),
-            Err(_) => Err(OpenErr::NoMemory(journal.into_disk())),
+            Err(fault) => {
+                drop(found);
+                Err(move_fault(fault))
+            }
         }
     }
 
