@@ -1,19 +1,26 @@
 -- How a replica comes up again.
-use Rattle.std.proofs.Common.{◌≡◌, List, [], ◌++◌, nat_lt, sym, ◌∙◌, ap, subst, arith}
+use Rattle.std.proofs.Common.{◌≡◌, ◌≤◌, ◌+◌, Bool, true, false, Some, None, List, [], ◌++◌, nat_lt, refl, sym, ◌∙◌, ap, subst, arith}
 use Rattle.std.specs.Prelude.{if◌then◌else◌}
+use Rattle.std.specs.Str.{bytes_eq}
 use Rattle.cg_action.specs.declared.action.Action.{Action}
-use Rattle.cg_disk.specs.View.{DiskView}
-use Rattle.cg_journal.specs.Reads.{IsRead, IsReadRefused}
+use Rattle.cg_disk.specs.View.{DiskView, LeavesOnly}
+use Rattle.cg_journal.specs.Records.{header}
 use Rattle.cg_queue.specs.Queue.{green_count}
 use Rattle.cg_client.specs.Replica.{Held}
 use Rattle.cg_client.specs.Turn.{Turn}
 use Rattle.cg_disk_records.specs.Stored.{recovery_turn}
+use Rattle.cg_disk_records.specs.Format.{Format, Older, Newer}
+use Rattle.cg_disk_records.specs.Recovery.{recovery_calls}
 use Rattle.cg_model.specs.Following.{Follows}
 use Rattle.cg_disk_records.specs.Always.{AlwaysHolds, AlwaysCounts, AlwaysSettled}
 use Rattle.cg_model.specs.Recorded.{AlwaysRecorded, AlwaysAhead}
 use Rattle.cg_store.specs.StoreState.{StoreState}
-use Rattle.cg_store.specs.Opening.{IsOpened}
-use Rattle.cg_store.specs.Stands.{Stands, disk_of}
+use Rattle.cg_store.specs.Answers.{IsReached}
+use Rattle.cg_store.specs.Formats.{Standing, StandsFor, StandsForState, opened, opened_as, newer}
+use Rattle.cg_store.specs.Migrating.{IsOpening, IsOpeningRefused}
+use Rattle.cg_store.specs.NewerLaws.{stands_newer}
+use Rattle.cg_store.specs.Opening.{IsOpened, IsSound}
+use Rattle.cg_store.specs.Stands.{OnDisk, Stands, disk_of}
 use Rattle.cg_engine.specs.Engines.{Fallen, IsEngine}
 use Rattle.cg_engine.specs.Answers.{Recovers}
 use Rattle.cg_engine.specs.Ending.{IsOpen, Rises}
@@ -36,30 +43,75 @@ open_engine holds counts settled records ahead {D} view k new core t opened turn
       follows = subst (λ m. Follows (disk_of m u) t.replica.held) marks (subst (λ (x : Turn). Follows (disk_of (recovery_turn u.content).known u) x.replica.held) (sym is) follows);
     })
 
-module _ {D : Type 0} (view : D → DiskView) (w : Fallen D) (last : LastEvent) (count_is : last.count ≡ w.count) (green_is : last.green ≡ w.green) (k : StoreState D) (core : Held) (opened : IsOpened view w.id (view w.disk) k core) where
+nothing_is : (s : Standing) → None ≡ Some s → ⊥
+nothing_is s e = cc
+
+-- ---- a disk that was opened
+
+-- it stands for the same state
+pub content_stays : (format : Format) (u : OnDisk) → (opened_as format u).content ≡ u.content
+content_stays Older u = refl
+content_stays (Newer front) u = refl
+
+-- in sixteen calls at the most
+pub calls_within : (format : Format) → recovery_calls format ≤ 16
+calls_within Older = omega arith
+calls_within (Newer front) = at (bytes_eq front header)
+  where
+    at : (b : Bool) → 5 + (if b then 0 else 4) ≤ 16
+    at true = omega arith
+    at false = omega arith
+
+module _ {D : Type 0} (view : D → DiskView) (w : Fallen D) (last : LastEvent) (count_is : last.count ≡ w.count) (green_is : last.green ≡ w.green) (k : StoreState D) (core : Held) (is_open : IsOpened view w.id (view w.disk) k core) where
+  abbrev now : OnDisk
+  now = opened is_open.standing
+
+  content_is : now.content ≡ is_open.standing.on.content
+  content_is = content_stays is_open.standing.format is_open.standing.on
+
   pub opened_is : IsOpen (view k.disk) k core
   opened_is = record {
-    standing = opened.standing;
-    stands = subst (λ id. Stands id (view k.disk).reads opened.standing) (sym opened.id_is) (subst (λ c. Stands w.id c opened.standing) (sym opened.read.only.reads) opened.stands);
-    sound = opened.sound;
-    core_is = opened.core_is;
-    unwritten = opened.unwritten;
+    standing = now;
+    stands = subst (λ id. Stands id (view k.disk).reads now) (sym is_open.id_is) is_open.reached.stands;
+    sound = subst (λ s. IsSound s) (sym content_is) is_open.sound;
+    core_is = is_open.core_is ∙ sym content_is;
+    unwritten = is_open.unwritten;
+  }
+
+  stood_as : (s : Standing) → StandsFor w.id (view w.disk).reads s → StandsForState w.id s.on.content (view k.disk).reads
+  stood_as s stands =
+      let both : Some is_open.standing ≡ Some s = sym is_open.stands ∙ stands in
+      let same : is_open.standing ≡ s = cc in
+      record {
+        standing = newer now;
+        stands = stands_newer w.id (view k.disk).reads now is_open.reached.stands;
+        content_is = content_is ∙ ap (λ (x : Standing). x.on.content) same;
+      }
+
+  -- memory was refused behind it
+  refused : IsOpeningRefused w.id (view w.disk) (view k.disk)
+  refused = record {
+    stood = stood_as;
+    stood_for_none = λ none. absurd (nothing_is is_open.standing (sym none ∙ is_open.stands));
+    calls = omega (arith, is_open.reached.time, calls_within is_open.standing.format);
+    unstruck = is_open.reached.unstruck;
+    moments = is_open.moments;
   }
 
   pub recovers : (result : Recovered D) → Rises k core last result → Recovers view w result
   recovers (recovered.Running e green) is = record {
-    standing = opened.standing;
-    stands = opened.stands;
-    replica = is.0 ∙ ap (λ c. (recovery_turn c).replica) opened.core_is;
-    id_is = ap (λ (x : StoreState D). x.id) is.1 ∙ opened.id_is;
-    unwritten = ap (λ (x : StoreState D). x.unwritten) is.1 ∙ ap (λ (m : List Action). m ++ (recovery_turn core).known) opened.unwritten ∙ ap (λ c. (recovery_turn c).known) opened.core_is;
-    read = subst (λ (x : StoreState D). IsRead 5 (view w.disk) (view x.disk)) (sym is.1) opened.read;
-    green_is = is.2 ∙ (λ i. if nat_lt (count_is i) (green_count (opened.core_is i).queue) then green_is i else []);
+    standing = is_open.standing;
+    stands = is_open.stands;
+    replica = is.0 ∙ ap (λ c. (recovery_turn c).replica) is_open.core_is;
+    id_is = ap (λ (x : StoreState D). x.id) is.1 ∙ is_open.id_is;
+    unwritten = ap (λ (x : StoreState D). x.unwritten) is.1 ∙ ap (λ (m : List Action). m ++ (recovery_turn core).known) is_open.unwritten ∙ ap (λ c. (recovery_turn c).known) is_open.core_is;
+    reached = subst (λ (x : StoreState D). IsReached w.id (recovery_calls is_open.standing.format) now (view w.disk) (view x.disk)) (sym is.1) is_open.reached;
+    moments = subst (λ (x : StoreState D). LeavesOnly (view w.disk) (view x.disk) (IsOpening w.id (view w.disk))) (sym is.1) is_open.moments;
+    green_is = is.2 ∙ (λ i. if nat_lt (count_is i) (green_count (is_open.core_is i).queue) then green_is i else []);
   }
   recovers (recovered.Down x) is = absurd is
   recovers (recovered.NotAStore x) is = absurd is
-  recovers (recovered.NoMemory x) is =
-      let read = opened.read in (
-        subst (λ (y : Fallen D). IsReadRefused 5 (view w.disk) (view y.disk)) (sym is) (record { only = read.only; time = omega (arith, read.time); unstruck = read.unstruck }),
-        record { id_is = ap (λ (y : Fallen D). y.id) is ∙ opened.id_is; count_is = ap (λ (y : Fallen D). y.count) is ∙ count_is; green_is = ap (λ (y : Fallen D). y.green) is ∙ green_is },
-      )
+  recovers (recovered.NoMemory x) is = (
+    subst (λ (y : Fallen D). IsOpeningRefused w.id (view w.disk) (view y.disk)) (sym is) refused,
+    record { id_is = ap (λ (y : Fallen D). y.id) is ∙ is_open.id_is; count_is = ap (λ (y : Fallen D). y.count) is ∙ count_is; green_is = ap (λ (y : Fallen D). y.green) is ∙ green_is },
+  )

@@ -5,9 +5,8 @@ use Rattle.cg_base.specs.declared.weighted.Weighted.{Weighted}
 use Rattle.cg_base.specs.Choice.{Either}
 use Rattle.cg_disk.specs.Calls.{Begins}
 use Rattle.cg_disk.specs.Sides.{Image}
-use Rattle.cg_disk.specs.View.{DiskView}
+use Rattle.cg_disk.specs.View.{DiskView, LeavesOnly}
 use Rattle.cg_journal.specs.Fresh.{IsLostWithin, IsRefusedWithin}
-use Rattle.cg_journal.specs.Reads.{IsRead, IsReadStruck, IsReadRefused}
 use Rattle.cg_queue.specs.Queue.{green_count}
 use Rattle.cg_client.specs.declared.parts.DraftParts.{DraftParts}
 use Rattle.cg_client.specs.Replica.{Replica, fresh_held, fresh}
@@ -15,9 +14,12 @@ use Rattle.cg_client.specs.Turn.{Turn}
 use Rattle.cg_disk_records.specs.Stored.{recovery_turn}
 use Rattle.cg_disk_records.specs.Commit.{commits}
 use Rattle.cg_disk_records.specs.Crash.{whitened}
+use Rattle.cg_disk_records.specs.Recovery.{recovery_calls}
 use Rattle.cg_store.specs.Answers.{IsReached, EachMoment}
 use Rattle.cg_store.specs.Calls.{Keeps, EndsWritten, IsOneOfThree}
 use Rattle.cg_store.specs.StoreState.{StoreState}
+use Rattle.cg_store.specs.Formats.{Standing, StandsFor, opened}
+use Rattle.cg_store.specs.Migrating.{IsOpening, IsLostOpening, IsOpeningRefused}
 use Rattle.cg_store.specs.Opening.{IsNoStore}
 use Rattle.cg_store.specs.Stands.{OnDisk, Stands, committed, checkpointed, created}
 use Rattle.cg_store.specs.declared.errors.CommitErr.{CommitErr}
@@ -108,16 +110,18 @@ Starts view id set old (started.Running e) = IsStarted view id set old e
 Starts view id set old (started.Down w) = IsLostWithin 7 old (view w.disk) × IsBare id w
 Starts view id set old (started.NoMemory w) = IsRefusedWithin 7 old (view w.disk) × IsBare id w
 
--- the replica that comes up from the state that its disk stands for, and the names of its last event that are green there
+-- the replica that comes up from the state that its disk stands for, and the names of its last event that are green there;
+-- the disk has gone over to the newer format
 pub record IsRecovered {D : Type 0} (view : D →
     DiskView) (w : Fallen D) (e : Up D) (green : List ActionId) : Type 0 where
-  pub standing : OnDisk
-  pub stands : Stands w.id (view w.disk).reads standing
-  pub replica : e.replica ≡ (recovery_turn standing.content).replica
+  pub standing : Standing
+  pub stands : StandsFor w.id (view w.disk).reads standing
+  pub replica : e.replica ≡ (recovery_turn standing.on.content).replica
   pub id_is : e.store.id ≡ w.id
-  pub unwritten : e.store.unwritten ≡ (recovery_turn standing.content).known
-  pub read : IsRead 5 (view w.disk) (view e.store.disk)
-  pub green_is : green ≡ told w standing.content
+  pub unwritten : e.store.unwritten ≡ (recovery_turn standing.on.content).known
+  pub reached : IsReached w.id (recovery_calls standing.format) (opened standing) (view w.disk) (view e.store.disk)
+  pub moments : LeavesOnly (view w.disk) (view e.store.disk) (IsOpening w.id (view w.disk))
+  pub green_is : green ≡ told w standing.on.content
 
 -- the same is to be told of it later
 pub record IsStill {D : Type 0} (old new : Fallen D) : Type 0 where
@@ -127,9 +131,9 @@ pub record IsStill {D : Type 0} (old new : Fallen D) : Type 0 where
 
 abbrev pub Recovers : {D : Type 0} → (D → DiskView) → Fallen D → Recovered D → Type 0
 Recovers view w (recovered.Running e green) = IsRecovered view w e green
-Recovers view w (recovered.Down x) = IsReadStruck 5 (view w.disk) (view x.disk) × IsStill w x
+Recovers view w (recovered.Down x) = IsLostOpening w.id (view w.disk) (view x.disk) × IsStill w x
 Recovers view w (recovered.NotAStore x) = IsNoStore w.id (view w.disk) (view x.disk) × IsStill w x
-Recovers view w (recovered.NoMemory x) = IsReadRefused 5 (view w.disk) (view x.disk) × IsStill w x
+Recovers view w (recovered.NoMemory x) = IsOpeningRefused w.id (view w.disk) (view x.disk) × IsStill w x
 
 -- a crash between two events, of which nothing is to be told
 pub record Falls {D : Type 0} (old : Up D) (w : Fallen D) : Type 0 where

@@ -271,9 +271,10 @@ impl<D: Disk> Engine<D> {
     }
 
     /// The replica comes up again from what its disk stands for: alone, in no primary component, and its own actions have
-    /// become red. Five device calls; it tells the names of its last event that are green there.
+    /// become red. Five device calls, and those by which a disk of the older format goes over to the newer one: sixteen at
+    /// the most. It tells the names of its last event that are green there.
     pub fn recover(alloc: Global, w: Wreck<D>) -> Recovered<D>
-        requires { (D.view w.disk).time + 5 ≤ COUNT_LIMIT }
+        requires { (D.view w.disk).time + 16 ≤ COUNT_LIMIT }
         ensures { Recovers D.view w result }
     {
         let (disk, id, last) = w.into_parts();

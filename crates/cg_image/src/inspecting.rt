@@ -1,8 +1,7 @@
 //! What is seen in an image.
 ghost use Rattle.std.specs.Prelude.{◌≡◌, ◌+◌, ◌≤◌, IfOk};
 ghost use Rattle.cg_base.specs.declared.limits.TheConstants.{COUNT_LIMIT};
-ghost use Rattle.cg_journal.specs.Records.{records};
-ghost use Rattle.cg_store.specs.Stands.{stands_for};
+ghost use Rattle.cg_store.specs.Formats.{standing_on_disk};
 ghost use Rattle.cg_image.specs.Calls.{IsUnarmed};
 ghost use Rattle.cg_image.specs.Inspecting.{inspected, of_disk, entry_of_recovered};
 ghost use Rattle.cg_image.specs.Told.{told_of};
@@ -26,7 +25,7 @@ pub enum Inspected {
     Holds(Entry),
 }
 
-/// What is seen in an image: the replica that a recovery brings up from its disk.
+/// What is seen in an image, of either format: the replica that a recovery brings up from its disk. The image is only read.
 pub fn inspect(alloc: Global, bytes: &[u8]) -> Result<Inspected, NoMemory>
     ensures { IfOk result (λ r. r ≡ told_of (inspected bytes.now)) }
 {
@@ -42,9 +41,9 @@ fn inspect_disk<D: Disk + Drop>(
     disk: D,
     id: ReplicaId,
 ) -> Result<Inspected, NoMemory>
-    requires calls { (D.view disk).time + 5 ≤ COUNT_LIMIT }
+    requires calls { (D.view disk).time + 16 ≤ COUNT_LIMIT }
     requires unarmed { IsUnarmed (D.view disk) }
-    ensures { IfOk result (λ r. r ≡ told_of (of_disk (stands_for id (records (D.view disk).reads)))) }
+    ensures { IfOk result (λ r. r ≡ told_of (of_disk (standing_on_disk id (D.view disk).reads))) }
 {
     match Engine::recover(alloc, Wreck::new(alloc, disk, id)) {
         Recovered::Running { engine, green } => {

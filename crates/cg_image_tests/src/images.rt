@@ -5,6 +5,35 @@ use cg_image::{Inspected, image_bytes, inspect};
 use std::alloc::Global;
 use std::test::Fail;
 
+// side A of a disk of the older format with the checkpoint of a new replica, the only server: the record's parts are its
+// generation, the last primary component, the attempt, that of yellow and the actions made, how far the greens reach,
+// and the servers; nothing stands in the database, and no actions are kept
+const OLD_HEAD: &[u8] = b"CGRUITY1\x01\0\0\0\x68\0\0\0\0\0\0\0\x01";
+
+const OLD_PRIM: &[u8] = b"\0\0\0\0\0\0\0\0\0\0\0\0\0\0\0\0\0\0\0\x01\x01";
+
+const OLD_ATTEMPT: &[u8] = b"\0\0\0\0\0\0\0\0\0\0\0\0\0\0\0\0\0\0\0\0\0\0";
+
+const OLD_GREENS: &[u8] = b"\0\0\0\0\0\0\0\0\0\0\0\0\0\0\0\0\0\0\0\0";
+
+const OLD_SERVERS: &[u8] = b"\0\0\0\x01\x01\0\0\0\0\0\0\0\0\0\0\0\0";
+
+const OLD_REST: &[u8] = b"\0\0\0\0\0\0\0\0\0\0\0\0\0\0\0\0\0";
+
+// its image: both sides behind their lengths, B without a record
+fn old_image(alloc: Global) -> Result<Vec<u8>, NoMemory> {
+    let mut image = Vec::new(alloc);
+    image.extend_from_slice(b"\x01\0\0\0\0\0\0\0\x76")?;
+    image.extend_from_slice(OLD_HEAD)?;
+    image.extend_from_slice(OLD_PRIM)?;
+    image.extend_from_slice(OLD_ATTEMPT)?;
+    image.extend_from_slice(OLD_GREENS)?;
+    image.extend_from_slice(OLD_SERVERS)?;
+    image.extend_from_slice(OLD_REST)?;
+    image.extend_from_slice(b"\0\0\0\0\0\0\0\x09CGRUITY1\0")?;
+    Ok(image)
+}
+
 // the image of the disk of a new replica, the only server
 fn new_image(alloc: Global) -> Result<Bytes, Fail> {
     let one = ReplicaId::known(1);
@@ -48,6 +77,14 @@ fn the_image_of_a_new_replica_shows_it(rt: HostRuntime) -> Result<(), Fail> {
     let image = new_image(rt.alloc())?;
     let text = b"1 NonPrim - g0 w0 p0@0{1} a0 v- y- r[] o[] x{} b0\ngreens 1 []\ndb 1\n";
     assert!(rt; shows(rt.alloc(), image.as_slice(), text)?);
+    Ok(())
+}
+
+#[test]
+fn an_image_of_the_older_format_shows_it(rt: HostRuntime) -> Result<(), Fail> {
+    let image = old_image(rt.alloc())?;
+    let text = b"1 NonPrim - g0 w0 p0@0{1} a0 v- y- r[] o[] x{} b0\ngreens 1 []\ndb 1\n";
+    assert!(rt; shows(rt.alloc(), &image, text)?);
     Ok(())
 }
 

@@ -2,8 +2,8 @@
 
 use cg_base::COUNT_LIMIT;
 
-/// The device calls of a recovery.
-pub(crate) const RECOVERY_CALLS: u64 = 5;
+/// The device calls of a recovery, at the most.
+pub(crate) const RECOVERY_CALLS: u64 = 16;
 
 /// The device calls of an event, at the most.
 pub(crate) const EVENT_CALLS: u64 = 10;

@@ -4,7 +4,8 @@ use Rattle.cg_model.specs.Show.{EventEffects}
 use Rattle.cg_model.specs.World.{Node}
 use Rattle.cg_engine.specs.Answers.{IsRecovered}
 use Rattle.cg_engine.specs.Engines.{Fallen}
-use Rattle.cg_world_events.proofs.ComingUp.{rises_seen}
+use Rattle.cg_store.specs.Opening.{IsNoStore}
+use Rattle.cg_world_events.proofs.ComingUp.{is_store, rises_seen}
 use Rattle.cg_world_events.proofs.rising.rise.Goals as goal
 
 pub returns-in-Running : goal.returns-in-Running
@@ -15,3 +16,10 @@ returns-in-Running c =
     let is = subst (λ (x : Fallen _). IsRecovered view_of x e green) c.into_wreck.ensures.wreck c.in-Running.ensures in
     subst (λ (up : Node × Option EventEffects). IfOk c.go_up.result (λ x. x ≡ up))
     (rises_seen view_of w c.into_wreck.ensures.rests e green is (state_of w.disk) (state_of e.store.disk) refl refl c.args.made.now) c.go_up.ensures
+
+pub unreachable-requires-in-NotAStore : goal.unreachable-requires-in-NotAStore
+unreachable-requires-in-NotAStore c =
+    let w = c.args.resting in
+    let x = c.in-NotAStore.field-0 in
+    let none = subst (λ (y : Fallen _). IsNoStore y.id (view_of y.disk) (view_of x.disk)) c.into_wreck.ensures.wreck c.in-NotAStore.ensures.0 in
+    is_store w.id (view_of w.disk) (view_of x.disk) c.into_wreck.ensures.rests none
