@@ -53,10 +53,8 @@ impl Progress {
             logs: Row::new(alloc),
         };
         let beside = Box::new(alloc, beside)?;
-        Ok(Progress {
-            world: World::new(alloc),
-            beside,
-        })
+        let world = World::new(alloc)?;
+        Ok(Progress { world, beside })
     }
 }
 

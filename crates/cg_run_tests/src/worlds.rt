@@ -36,7 +36,7 @@ fn begin(alloc: Global, p: ReplicaId) -> Result<World, Fail>
     set.add(p);
     let weights = WeightSet::of(&set);
     let _members = weights.iter();
-    let world = take_step(alloc, World::new(alloc), &Event::Start(weights))?;
+    let world = take_step(alloc, World::new(alloc)?, &Event::Start(weights))?;
     let _ids = set.iter();
     take_step(alloc, world, &Event::Merge(set))
 }

@@ -28,10 +28,10 @@ use std::alloc::Global;
 use std::marker::Model;
 
 /// The world: one to which admitted events lead from before the start. Clauses see it as the definitions have it, with
-/// the actions that were shown as made on the way.
+/// the actions that were shown as made on the way. Its state is one box, since a world goes from call to call as a value.
 #[derive(Drop)]
 pub struct World {
-    pub(crate) state: WorldState,
+    pub(crate) state: Box<WorldState>,
     pub(crate) made: MadeActions,
 }
 
@@ -41,9 +41,9 @@ impl Model for World {
 
     ghost Value = { SoFar };
 
-    ghost view = { λ w. record { world = w.state; made = w.made } };
+    ghost view = { λ w. record { world = w.state.value; made = w.made } };
 
-    ghost invariant = { λ w. IsLedWith w.state w.made };
+    ghost invariant = { λ w. IsLedWith w.state.value w.made };
 }
 
 impl World {
@@ -51,14 +51,15 @@ impl World {
     ghost use Rattle.cg_world.specs.SoFar.{nothing_yet};
 
     /// The world before its start.
-    pub fn new(alloc: Global) -> World
-        ensures { result ≡ nothing_yet }
+    pub fn new(alloc: Global) -> Result<World, NoMemory>
+        ensures { IfOk result (λ w. w ≡ nothing_yet) }
     {
         facts_stand_beside_each_world();
-        World {
-            state: WorldState::new(alloc),
+        let state = Box::new(alloc, WorldState::new(alloc))?;
+        Ok(World {
+            state,
             made: MadeActions::new(alloc),
-        }
+        })
     }
 
     /// How many places of its configuration may be handed to the replica next, 0 where it is in none. It takes no memory.
@@ -185,6 +186,6 @@ impl World {
     {
         let World { state, made } = self;
         drop(made);
-        state.into_disk(p)
+        Box::into_inner(state).into_disk(p)
     }
 }

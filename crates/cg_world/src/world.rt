@@ -76,9 +76,9 @@ fn finish(alloc: Global, made: MadeActions, going: StepInProgress, touched: &IdS
 }
 
 // what its step shows as made is kept
-fn keep(alloc: Global, made: MadeActions, entry: Entry, state: WorldState) -> Stepped
-    requires { IsLedWith state (made ++ newly_made (record { entry = entry; world = state })) }
-    ensures { IsEnd (record { entry = entry; world = state }) made result }
+fn keep(alloc: Global, made: MadeActions, entry: Entry, state: Box<WorldState>) -> Stepped
+    requires { IsLedWith state.value (made ++ newly_made (record { entry = entry; world = state.value })) }
+    ensures { IsEnd (record { entry = entry; world = state.value }) made result }
 {
     let mut made = made;
     match made.add_all(alloc, &state, entry.made.as_slice()) {

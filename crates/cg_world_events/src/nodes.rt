@@ -4,6 +4,7 @@ ghost use Rattle.std.specs.Option.{option_copied};
 ghost use Rattle.std.specs.List.{prefix_len};
 ghost use Rattle.cg_base.specs.Sets.{IsId};
 ghost use Rattle.cg_model.specs.World.{with_node};
+ghost use Rattle.cg_world_events.specs.Calls.{crashed};
 ghost use Rattle.cg_world_events.specs.Hosting.{ups, with_up};
 ghost use Rattle.cg_model.specs.World.{Node as NodeView};
 
@@ -12,8 +13,8 @@ use cg_base::{IdSet, NoMemory, ReplicaId};
 use std::alloc::Global;
 use std::marker::Model;
 
-// A node in a place of its own, and whose it is: nodes come and go with each event, those behind one that goes move up, and
-// they are looked through by their replicas. Clauses see the node.
+// A node in a place of its own, and whose it is: nodes come and go with each event, from call to call, those behind one that
+// goes move up, and they are looked through by their replicas. Clauses see the node.
 #[derive(Drop)]
 pub(crate) struct BoxedNode {
     id: ReplicaId,
@@ -32,7 +33,7 @@ impl Model for BoxedNode {
 }
 
 impl BoxedNode {
-    fn new(alloc: Global, node: Node) -> Result<BoxedNode, NoMemory>
+    pub(crate) fn new(alloc: Global, node: Node) -> Result<BoxedNode, NoMemory>
         ensures { IfOk result (λ b. b ≡ node) }
     {
         let id = node.id();
@@ -52,11 +53,19 @@ impl BoxedNode {
         &self.node
     }
 
-    fn into_inner(self) -> Node
+    pub(crate) fn into_inner(self) -> Node
         ensures { result ≡ self }
     {
         let BoxedNode { node, .. } = self;
         Box::into_inner(node)
+    }
+
+    /// `crash` of the node.
+    pub(crate) fn crash(self, alloc: Global) -> Result<BoxedNode, NoMemory>
+        ensures { IfOk result (λ b. b ≡ crashed self.id self.life) }
+    {
+        let node = self.into_inner().crash()?;
+        BoxedNode::new(alloc, node)
     }
 }
 
@@ -163,8 +172,15 @@ impl Nodes {
     pub(crate) fn put(&mut self, node: Node) -> Result<(), NoMemory>
         ensures { OnOk result (self.new ≡ with_node self.old node) }
     {
-        self.clear(node.id());
         let node = BoxedNode::new(self.alloc(), node)?;
+        self.put_boxed(node)
+    }
+
+    /// The same of a node that has its place.
+    pub(crate) fn put_boxed(&mut self, node: BoxedNode) -> Result<(), NoMemory>
+        ensures { OnOk result (self.new ≡ with_node self.old node) }
+    {
+        self.clear(node.id());
         self.add(node)
     }
 
@@ -176,8 +192,22 @@ impl Nodes {
             × ((t : NodeView) → t.id ≡ p → with_node self.new t ≡ with_node self.old t)) }
         ensures away { find (λ s. s.id == p) self.new ≡ None }
     {
+        match self.take_boxed(p) {
+            Some(node) => Some(node.into_inner()),
+            None => None,
+        }
+    }
+
+    /// The same of a node that keeps its place.
+    pub(crate) fn take_boxed(&mut self, p: ReplicaId) -> Option<BoxedNode>
+        ensures taken { MatchOption result
+            ((find (λ s. s.id == p) self.old ≡ None) × (self.new ≡ self.old))
+            (λ s. (find (λ t. t.id == p) self.old ≡ Some s)
+            × ((t : NodeView) → t.id ≡ p → with_node self.new t ≡ with_node self.old t)) }
+        ensures away { find (λ s. s.id == p) self.new ≡ None }
+    {
         match index_of(self.list.as_slice(), p) {
-            Some(index) => Some(self.list.remove(index).into_inner()),
+            Some(index) => Some(self.list.remove(index)),
             None => None,
         }
     }
@@ -187,7 +217,7 @@ impl Nodes {
         ensures put { (t : NodeView) → t.id ≡ p → with_node self.new t ≡ with_node self.old t }
         ensures away { find (λ s. s.id == p) self.new ≡ None }
     {
-        match self.take(p) {
+        match self.take_boxed(p) {
             Some(node) => drop(node),
             None => {}
         }

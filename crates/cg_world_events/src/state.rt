@@ -19,7 +19,7 @@ ghost use Rattle.cg_world_events.specs.Hosting.{with_left};
 
 use crate::admission::{hidden, takes_part, unknown};
 use crate::made::MadeCut;
-use crate::nodes::Nodes;
+use crate::nodes::{BoxedNode, Nodes};
 use crate::snapshot_counts::SnapshotCounts;
 use crate::transfers::Transfers;
 use crate::{Lines, Node};
@@ -92,6 +92,10 @@ impl WorldState {
             made: MadeCut::zero(),
             named: IdSet::empty(),
         }
+    }
+
+    pub(crate) fn alloc(&self) -> Global {
+        self.nodes.alloc()
     }
 
     /// The replica has begun. It takes no memory.
@@ -249,32 +253,32 @@ impl WorldState {
     }
 
     // The node of a replica that is up is taken out; any other stays.
-    pub(crate) fn take_up(&mut self, p: ReplicaId) -> Option<Node>
+    pub(crate) fn take_up(&mut self, p: ReplicaId) -> Option<BoxedNode>
         ensures { MatchOption result
             ((replica_of self.old p ≡ None) × (self.new ≡ self.old))
             (λ s. (node_of self.old p ≡ Some s) × (is_some (running s.life) ≡ true)
             × ((life : NodeState) → set_life self.new p life ≡ set_life self.old p life)) }
     {
         if self.is_up(p) {
-            self.nodes.take(p)
+            self.nodes.take_boxed(p)
         } else {
             None
         }
     }
 
     // The replica's node is this one.
-    pub(crate) fn put(&mut self, node: Node) -> Result<(), NoMemory>
+    pub(crate) fn put(&mut self, node: BoxedNode) -> Result<(), NoMemory>
         ensures { OnOk result (self.new ≡ hosted self.old node) }
     {
-        self.nodes.put(node)
+        self.nodes.put_boxed(node)
     }
 
     // The node of a replica that went down stands; it leaves the group, and its snapshots end.
-    pub(crate) fn take_down(&mut self, node: Node) -> Result<(), NoMemory>
+    pub(crate) fn take_down(&mut self, node: BoxedNode) -> Result<(), NoMemory>
         ensures { OnOk result (self.new ≡ fallen (hosted self.old node) node.id) }
     {
         let id = node.id();
-        self.nodes.put(node)?;
+        self.nodes.put_boxed(node)?;
         self.group.down(id);
         self.transfers.end_of(id);
         Ok(())

@@ -16,7 +16,8 @@ ghost use Rattle.cg_world_events.specs.StepInProgress.{comes_back, ended_with};
 ghost use Rattle.cg_model.specs.Show.{ended, tell};
 
 use crate::made::MadeCut;
-use crate::{EntryBuilder, EventEffects, Node, NodeOutput, WorldState};
+use crate::nodes::BoxedNode;
+use crate::{EntryBuilder, EventEffects, NodeOutput, WorldState};
 use cg_base::{IdSet, NoMemory, ReplicaId, Row};
 use cg_client::Request;
 use cg_encoded::EncodedMsg;
@@ -25,9 +26,10 @@ use cg_report::{Entry, Shown};
 use std::alloc::Global;
 use std::marker::Model;
 
-/// The world so far, and what is to be shown but for the lines.
+/// The world so far, and what is to be shown but for the lines. The world is one box, since it goes from call to call as a
+/// value.
 pub struct StepInProgress {
-    pub(crate) state: WorldState,
+    pub(crate) state: Box<WorldState>,
     pub(crate) showing: EntryBuilder,
 }
 
@@ -46,7 +48,7 @@ impl Model for StepInProgress {
     ghost Value = { StepInProgress };
 
     ghost view = { λ g. record {
-      world = g.state;
+      world = g.state.value;
       made = g.showing.made;
       orders = g.showing.orders;
       replies = g.showing.replies;
@@ -74,8 +76,8 @@ fn told(
 
 impl StepInProgress {
     /// Nothing has come of an event but this world.
-    pub fn quietly(alloc: Global, state: WorldState) -> StepInProgress
-        ensures { result ≡ quietly state }
+    pub fn quietly(alloc: Global, state: Box<WorldState>) -> StepInProgress
+        ensures { result ≡ quietly state.value }
     {
         StepInProgress {
             state,
@@ -84,8 +86,8 @@ impl StepInProgress {
     }
 
     /// The world so far. It takes no memory.
-    pub fn into_state(self) -> WorldState
-        ensures { result ≡ self.world }
+    pub fn into_state(self) -> Box<WorldState>
+        ensures { result.value ≡ self.world }
     {
         let StepInProgress { state, showing } = self;
         drop(showing);
@@ -149,26 +151,30 @@ impl StepInProgress {
     }
 
     // Deliveries come to a replica whose node was taken out.
-    fn hand_list(&mut self, node: Node, list: Row<Delivery<EncodedMsg>>) -> Result<(), NoMemory>
+    fn hand_list(
+        &mut self,
+        node: BoxedNode,
+        list: Row<Delivery<EncodedMsg>>,
+    ) -> Result<(), NoMemory>
         requires { IsBookedFor node.life (Deliveries list) }
         ensures { OnOk result (self.new ≡ comes_back self.old (taken node.id (Deliveries list) node.life)) }
     {
-        let (node, spoken) = node.deliver(list)?;
+        let (node, spoken) = node.deliver(self.state.alloc(), list)?;
         self.come_back(node, spoken)
     }
 
     // A request comes to a replica whose node was taken out.
-    fn hand_request(&mut self, node: Node, request: Request) -> Result<(), NoMemory>
+    fn hand_request(&mut self, node: BoxedNode, request: Request) -> Result<(), NoMemory>
         requires limits { IsKind (kind_of request) }
         requires booked { IsBookedFor node.life (Asks (kind_of request)) }
         ensures { OnOk result (self.new ≡ comes_back self.old (taken node.id (Asks (kind_of request)) node.life)) }
     {
-        let (node, spoken) = node.ask(request)?;
+        let (node, spoken) = node.ask(self.state.alloc(), request)?;
         self.come_back(node, spoken)
     }
 
     // Its node stands again, and what it has to say is said and shown; or it went down.
-    fn come_back(&mut self, node: Node, spoken: Option<NodeOutput>) -> Result<(), NoMemory>
+    fn come_back(&mut self, node: BoxedNode, spoken: Option<NodeOutput>) -> Result<(), NoMemory>
         ensures { OnOk result (self.new ≡ comes_back self.old (node, spoken)) }
     {
         match spoken {
@@ -177,7 +183,7 @@ impl StepInProgress {
         }
     }
 
-    fn go_on(&mut self, node: Node, spoken: NodeOutput) -> Result<(), NoMemory>
+    fn go_on(&mut self, node: BoxedNode, spoken: NodeOutput) -> Result<(), NoMemory>
         ensures { OnOk result (self.new ≡ comes_back self.old (node, Some spoken)) }
     {
         let p = node.id();
@@ -190,9 +196,9 @@ impl StepInProgress {
     /// The event ends: what it shows, with the lines that differ from the last printed ones, and the world behind it.
     /// They are looked for at these replicas alone, since nothing is new of others.
     #[tactic(auto, unfolding(cg_model::specs::Show::ended))]
-    pub fn finish(self, touched: &IdSet) -> Result<(Entry, WorldState), NoMemory>
+    pub fn finish(self, touched: &IdSet) -> Result<(Entry, Box<WorldState>), NoMemory>
         requires { ShowsNewsOf touched.now self.world }
-        ensures { IfOk result (λ x. record { entry = x.0; world = x.1 } ≡ ended self) }
+        ensures { IfOk result (λ x. record { entry = x.0; world = x.1.value } ≡ ended self) }
     {
         let StepInProgress { mut state, showing } = self;
         match end(&mut state, showing, touched) {

@@ -12,6 +12,7 @@ ghost use Rattle.cg_world_events.specs.StepInProgress.{IsQuiet, hosted, fallen};
 ghost use Rattle.cg_world_events.specs.Striking.{returned, telling};
 
 use crate::admission::{admit, not_down, takes_part};
+use crate::nodes::BoxedNode;
 use crate::{EventEffects, Node, StepInProgress, WorldState};
 use cg_base::{Bytes, NoMemory, ReplicaId, Row};
 use cg_group::GroupErr;
@@ -61,10 +62,10 @@ fn crash(state: &mut WorldState, p: ReplicaId) -> Result<(), NoMemory>
     }
 }
 
-fn fall(state: &mut WorldState, node: Node) -> Result<(), NoMemory>
+fn fall(state: &mut WorldState, node: BoxedNode) -> Result<(), NoMemory>
     ensures { OnOk result (state.new ≡ fallen (hosted state.old (crashed node.id node.life)) node.id) }
 {
-    let node = node.crash()?;
+    let node = node.crash(state.alloc())?;
     state.take_down(node)
 }
 
@@ -75,7 +76,7 @@ fn arm_stop(state: &mut WorldState, p: ReplicaId, call: u64, fill: Bytes) -> Res
 {
     match state.take_up(p) {
         Some(node) => {
-            let mut node = node;
+            let mut node = node.into_inner();
             node.stop_at(call, fill);
             state.nodes.put(node)
         }
@@ -102,7 +103,7 @@ fn arm_fail(state: &mut WorldState, p: ReplicaId, call: u64) -> Result<(), NoMem
 {
     match state.take_up(p) {
         Some(node) => {
-            let mut node = node;
+            let mut node = node.into_inner();
             node.fail_at(call);
             state.nodes.put(node)
         }

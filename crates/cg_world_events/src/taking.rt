@@ -11,11 +11,13 @@ ghost use Rattle.cg_model.specs.ReplicaStep.{Deliveries, Asks};
 ghost use Rattle.cg_model.specs.World.{Up};
 ghost use Rattle.cg_world_events.specs.Calls.{begun, taken, IsBookedFor};
 ghost use Rattle.cg_store.specs.Stands.{OnDisk};
-ghost use Rattle.cg_world_events.specs.Seen.{disk_seen, up_seen, FallsTo, fallen, said};
+ghost use Rattle.cg_world_events.specs.Seen.{disk_seen, up_seen, down_seen, FallsTo, fallen, said};
 ghost use Rattle.cg_world_events.specs.declared.limits.TheConstants.{EVENT_CALLS, RECOVERY_CALLS};
 
+use crate::crashed_disk::CrashedDisk;
 use crate::limits::CALLS_BEFORE_EVENT;
 use crate::node_state::NodeState;
+use crate::nodes::BoxedNode;
 use crate::{EventEffects, Node, NodeOutput};
 use cg_base::{Bytes, NoMemory, ReplicaId, Row, WeightSet};
 use cg_client::Request;
@@ -44,54 +46,73 @@ impl Node {
             }
         }
     }
+}
 
+impl BoxedNode {
     /// Deliveries come to it, in their order, and then it creates the requests that it kept. `NoMemory` too where its
     /// disk has made so many calls that those of an event and of a recovery might go past 2^62.
-    pub fn deliver(
+    pub(crate) fn deliver(
         self,
+        alloc: Global,
         list: Row<Delivery<EncodedMsg>>,
-    ) -> Result<(Node, Option<NodeOutput>), NoMemory>
+    ) -> Result<(BoxedNode, Option<NodeOutput>), NoMemory>
         requires { IsBookedFor self.life (Deliveries list) }
         ensures { IfOk result (λ x. x ≡ taken self.id (Deliveries list) self.life) }
     {
-        match self.into_life() {
-            NodeState::Up { engine, fill } => deliver_to(engine, fill, list),
+        match self.into_inner().into_life() {
+            NodeState::Up { engine, fill } => deliver_to(alloc, engine, fill, list),
             NodeState::Down(resting) => {
                 drop(list);
-                Ok((Node::down(resting), None))
+                stay_down(alloc, resting)
             }
         }
     }
 
     /// A request comes to it. `NoMemory` as of `deliver`.
-    pub fn ask(self, request: Request) -> Result<(Node, Option<NodeOutput>), NoMemory>
+    pub(crate) fn ask(
+        self,
+        alloc: Global,
+        request: Request,
+    ) -> Result<(BoxedNode, Option<NodeOutput>), NoMemory>
         requires limits { IsKind (kind_of request) }
         requires booked { IsBookedFor self.life (Asks (kind_of request)) }
         ensures { IfOk result (λ x. x ≡ taken self.id (Asks (kind_of request)) self.life) }
     {
-        match self.into_life() {
-            NodeState::Up { engine, fill } => take(engine, fill, Input::Request(request)),
+        match self.into_inner().into_life() {
+            NodeState::Up { engine, fill } => take(alloc, engine, fill, Input::Request(request)),
             NodeState::Down(resting) => {
                 drop(request);
-                Ok((Node::down(resting), None))
+                stay_down(alloc, resting)
             }
         }
     }
 }
 
+// A replica that is down takes nothing.
+fn stay_down(
+    alloc: Global,
+    resting: CrashedDisk,
+) -> Result<(BoxedNode, Option<NodeOutput>), NoMemory>
+    ensures { IfOk result (λ x. x ≡ (down_seen (⟦<ModelDisk as Disk>⟧.view) resting, None)) }
+{
+    let node = BoxedNode::new(alloc, Node::down(resting))?;
+    Ok((node, None))
+}
+
 // Deliveries come to an engine.
 fn deliver_to(
+    alloc: Global,
     engine: Engine<ModelDisk>,
     fill: Bytes,
     list: Row<Delivery<EncodedMsg>>,
-) -> Result<(Node, Option<NodeOutput>), NoMemory>
+) -> Result<(BoxedNode, Option<NodeOutput>), NoMemory>
     requires { (book : ActionId → Action) × AreBooked book engine.replica.held (Deliveries list) }
     ensures { IfOk result (λ x. x ≡ taken
         engine.store.id (Deliveries list) (Up engine.replica (disk_seen (⟦<ModelDisk as Disk>⟧.view) engine fill))) }
 {
     messages_are_exact();
-    match open_all(engine.core().alloc(), list) {
-        Ok(all) => take(engine, fill, Input::Deliver(all)),
+    match open_all(alloc, list) {
+        Ok(all) => take(alloc, engine, fill, Input::Deliver(all)),
         Err(_) => {
             drop(engine);
             drop(fill);
@@ -102,10 +123,11 @@ fn deliver_to(
 
 // An event comes to an engine, where there is room for its device calls and those of a recovery.
 fn take(
+    alloc: Global,
     engine: Engine<ModelDisk>,
     fill: Bytes,
     input: Input,
-) -> Result<(Node, Option<NodeOutput>), NoMemory>
+) -> Result<(BoxedNode, Option<NodeOutput>), NoMemory>
     requires limits { HasLimits input }
     requires booked { (book : ActionId → Action) × AreBooked book engine.replica.held (input_of input) }
     ensures { IfOk result (λ x. x ≡ taken
@@ -117,15 +139,16 @@ fn take(
         drop(input);
         return Err(NoMemory);
     }
-    handle(engine, fill, input)
+    handle(alloc, engine, fill, input)
 }
 
 // An event comes to an engine.
 fn handle(
+    alloc: Global,
     engine: Engine<ModelDisk>,
     fill: Bytes,
     input: Input,
-) -> Result<(Node, Option<NodeOutput>), NoMemory>
+) -> Result<(BoxedNode, Option<NodeOutput>), NoMemory>
     requires calls { (⟦<ModelDisk as Disk>⟧.view engine.store.disk).time + EVENT_CALLS + RECOVERY_CALLS ≤ COUNT_LIMIT }
     requires limits { HasLimits input }
     requires booked { (book : ActionId → Action) × AreBooked book engine.replica.held (input_of input) }
@@ -137,8 +160,8 @@ fn handle(
     each_event_keeps_what_holds();
     engine.holds();
     match engine.handle(input) {
-        Handled::Running { engine, outputs } => Ok(go_on(engine, fill, outputs)),
-        Handled::Down(wreck) => fall(wreck, fill),
+        Handled::Running { engine, outputs } => go_on(alloc, engine, fill, outputs),
+        Handled::Down(wreck) => fall(alloc, wreck, fill),
         Handled::NoMemory(wreck) => {
             drop(wreck);
             drop(fill);
@@ -148,22 +171,34 @@ fn handle(
 }
 
 // The replica goes on behind an event, and says what came of it.
-fn go_on(engine: Engine<ModelDisk>, fill: Bytes, outputs: Outputs) -> (Node, Option<NodeOutput>)
-    ensures { result ≡ (up_seen (⟦<ModelDisk as Disk>⟧.view) engine fill, Some (said outputs engine.replica.held)) }
+fn go_on(
+    alloc: Global,
+    engine: Engine<ModelDisk>,
+    fill: Bytes,
+    outputs: Outputs,
+) -> Result<(BoxedNode, Option<NodeOutput>), NoMemory>
+    ensures { IfOk result (λ x. x ≡
+        (up_seen (⟦<ModelDisk as Disk>⟧.view) engine fill, Some (said outputs engine.replica.held))) }
 {
     let (made, sent, replies, green) = outputs.into_parts();
     let count = engine.core().green_count();
     let news = EventEffects::new(made, green, count, replies);
-    (Node::up(engine, fill), Some(NodeOutput::new(news, sent)))
+    let node = BoxedNode::new(alloc, Node::up(engine, fill))?;
+    Ok((node, Some(NodeOutput::new(news, sent))))
 }
 
 // The event ended in its crash.
-fn fall(wreck: Wreck<ModelDisk>, fill: Bytes) -> Result<(Node, Option<NodeOutput>), NoMemory>
+fn fall(
+    alloc: Global,
+    wreck: Wreck<ModelDisk>,
+    fill: Bytes,
+) -> Result<(BoxedNode, Option<NodeOutput>), NoMemory>
     requires falls { (u : OnDisk) × FallsTo (⟦<ModelDisk as Disk>⟧.view) wreck fill u }
     requires room { (⟦<ModelDisk as Disk>⟧.view wreck.disk).time + RECOVERY_CALLS ≤ COUNT_LIMIT }
     ensures { IfOk result (λ x. (u : OnDisk) → FallsTo (⟦<ModelDisk as Disk>⟧.view) wreck fill u →
         x ≡ (fallen wreck u, None)) }
 {
     let node = Node::fall(wreck, fill.as_slice())?;
+    let node = BoxedNode::new(alloc, node)?;
     Ok((node, None))
 }

@@ -1,8 +1,10 @@
-use Rattle.std.proofs.Common.{refl, ◌∙◌, arith}
+use Rattle.std.proofs.Common.{◌≡◌, IfOk, Option, refl, subst, arith}
 use Rattle.cg_disk.specs.Model.{view_of, state_of}
 use Rattle.cg_engine.specs.Inputs.{input_of}
 use Rattle.cg_model.specs.ReplicaStep.{replica_step}
 use Rattle.cg_engine.specs.FallLaws.{fallen_within}
+use Rattle.cg_model.specs.World.{Node}
+use Rattle.cg_world_events.specs.Calls.{NodeOutput}
 use Rattle.cg_world_events.proofs.Events.{goes_on, falls_down, fallen_so}
 use Rattle.cg_world_events.proofs.taking.handle.Goals as goal
 
@@ -30,9 +32,9 @@ returns-in-Running c =
     let kept = c.each_event_keeps_what_holds.ensures in
     let laws = c.what_is_held_agrees.ensures in
     let is = c.holds.ensures.follows in
-    c.go_on.ensures
-    ∙ goes_on view_of c.events_end_as_defined.ensures kept laws.counts old c.args.fill (input_of c.args.input) c.requires.booked.0 (state_of old.store.disk) refl is c.requires.booked.1
-    c.in-Running.engine c.in-Running.outputs (c.in-Running.ensures is.standing is.stands)
+    subst (λ (x : Node × Option NodeOutput). IfOk c.go_on.result (λ y. y ≡ x))
+    (goes_on view_of c.events_end_as_defined.ensures kept laws.counts old c.args.fill (input_of c.args.input) c.requires.booked.0 (state_of old.store.disk) refl is c.requires.booked.1
+    c.in-Running.engine c.in-Running.outputs (c.in-Running.ensures is.standing is.stands)) c.go_on.ensures
 
 pub returns-in-Down : goal.returns-in-Down
 returns-in-Down c =

@@ -13,18 +13,18 @@ pub returns-clause-found : goal.returns-clause-found
 returns-clause-found c =
     let w = c.self.inside in
     subst (λ (s : SoFar). option_copied c.get.result ≡ made_named s.made c.args.id) c.self.view_is
-    (c.get.ensures ∙ found-named w.state w.made c.self.invariant c.args.id)
+    (c.get.ensures ∙ found-named w.state.value w.made c.self.invariant c.args.id)
 
 pub returns-clause-some : goal.returns-clause-some
 returns-clause-some c =
     let w = c.self.inside in
     let id = c.args.id in
     subst (λ (s : SoFar). is_some (option_copied c.get.result) ≡ (nat_lt 0 id.index && nat_le id.index (index_in s.world.made id.creator))) c.self.view_is
-    (ap is_some c.get.ensures ∙ found-some w.state w.made c.self.invariant id)
+    (ap is_some c.get.ensures ∙ found-some w.state.value w.made c.self.invariant id)
 
 pub returns-clause-action : goal.returns-clause-action
 returns-clause-action c =
     let w = c.self.inside in
-    let there = found-booked w.state w.made c.self.invariant c.args.id in
+    let there = found-booked w.state.value w.made c.self.invariant c.args.id in
     subst (λ (s : SoFar). IfSome (option_copied c.get.result) (λ a. (a.id ≡ c.args.id) × IsInBook s.world a)) c.self.view_is
-    (subst (λ (o : Option Action). IfSome o (λ a. (a.id ≡ c.args.id) × IsInBook w.state a)) (sym c.get.ensures) there)
+    (subst (λ (o : Option Action). IfSome o (λ a. (a.id ≡ c.args.id) × IsInBook w.state.value a)) (sym c.get.ensures) there)

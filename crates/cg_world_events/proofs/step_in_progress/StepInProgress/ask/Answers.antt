@@ -1,18 +1,23 @@
-use Rattle.std.proofs.Common.{◌≡◌, OnOk, subst}
+use Rattle.std.proofs.Common.{◌≡◌, OnOk, Some, None, true, is_some, subst}
 use Rattle.cg_client.specs.Calls.{kind_of}
 use Rattle.cg_model.specs.ReplicaStep.{Asks}
+use Rattle.cg_model.specs.World.{NodeState, World, running, node_of, replica_of, set_life}
 use Rattle.cg_model.specs.Show.{StepInProgress}
 use Rattle.cg_world_events.proofs.HandFacts.{nobody-hands, node-hands, node-booked}
 use Rattle.cg_world_events.proofs.step_in_progress.StepInProgress.ask.Goals as goal
 
 pub hand_request-requires-clause-booked : goal.hand_request-requires-clause-booked
 hand_request-requires-clause-booked c =
-    (c.requires.booked.0, node-booked c.requires.booked.0 _ c.args.self.now c.args.p (Asks (kind_of c.args.request)) c.in-Some.node c.self.view_is c.in-Some.ensures.0 c.requires.booked.1)
+    (c.requires.booked.0, node-booked c.requires.booked.0 _ c.args.self.now c.args.p (Asks (kind_of c.args.request)) c.in-Some.node c.self.view_is (subst (λ (w : World). node_of w c.args.p ≡ Some c.in-Some.node) c.deref_mut.ensures.value c.in-Some.ensures.0) c.requires.booked.1)
 
 pub returns-in-Some : goal.returns-in-Some
 returns-in-Some c =
+    let here = subst (λ (w : World). (node_of w c.args.p ≡ Some c.in-Some.node) × (is_some (running c.in-Some.node.life) ≡ true)
+    × ((life : NodeState) → set_life c.take_up.new.self c.args.p life ≡ set_life w c.args.p life)) c.deref_mut.ensures.value c.in-Some.ensures in
     subst (λ (g : StepInProgress). OnOk c.hand_request.result (c.hand_request.new.self ≡ g))
-    (node-hands _ c.args.self.now c.take_up.new.self c.args.p (Asks (kind_of c.args.request)) c.in-Some.node c.self.view_is c.in-Some.ensures) c.hand_request.ensures
+    (node-hands _ c.args.self.now c.take_up.new.self c.args.p (Asks (kind_of c.args.request)) c.in-Some.node c.self.view_is here) c.hand_request.ensures
 
 pub returns-in-None : goal.returns-in-None
-returns-in-None c = nobody-hands _ c.args.self.now c.take_up.new.self c.args.p (Asks (kind_of c.args.request)) c.self.view_is c.in-None.ensures
+returns-in-None c =
+    nobody-hands _ c.args.self.now c.take_up.new.self c.args.p (Asks (kind_of c.args.request)) c.self.view_is
+    (subst (λ (w : World). (replica_of w c.args.p ≡ None) × (c.take_up.new.self ≡ w)) c.deref_mut.ensures.value c.in-None.ensures)

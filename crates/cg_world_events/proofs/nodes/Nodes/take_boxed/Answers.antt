@@ -1,6 +1,6 @@
 use Rattle.std.proofs.Common.{sym, ap, ◌∙◌, refl, Some}
 use Rattle.cg_world_events.proofs.NodeFacts.{taken_out, found_nowhere}
-use Rattle.cg_world_events.proofs.nodes.Nodes.take.Goals as goal
+use Rattle.cg_world_events.proofs.nodes.Nodes.take_boxed.Goals as goal
 
 pub invariant_of-self : goal.invariant_of-self
 invariant_of-self c =
@@ -11,7 +11,7 @@ pub returns-in-Some-clause-taken : goal.returns-in-Some-clause-taken
 returns-in-Some-clause-taken c =
     let at = rw c.as_slice.ensures.value at (sym c.index_of.ensures ∙ c.in-Some.is) in
     let out = taken_out c.self.inside.list.items c.args.p c.in-Some.index c.remove.result c.self.invariant at in
-    rw (← c.self.view_is, c.remove.ensures.items) (out.node ∙ ap Some (sym c.remove.ensures.value) ∙ ap Some (sym c.into_inner.ensures), out.again)
+    rw (← c.self.view_is, c.remove.ensures.items) (out.node ∙ ap Some (sym c.remove.ensures.value), out.again)
 
 pub returns-in-Some-clause-away : goal.returns-in-Some-clause-away
 returns-in-Some-clause-away c =
