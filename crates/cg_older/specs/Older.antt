@@ -1,5 +1,6 @@
 -- What records of the older format stand for, and which states have one.
-use Rattle.std.specs.Prelude.{ℕ, ◌^◌, nat_lt, Bool, ◌||◌, List, ◌++◌, Option, None, option_and_then, if◌then◌else◌}
+use Rattle.std.specs.Prelude.{ℕ, nat_lt, Bool, ◌||◌, List, ◌++◌, Option, None, option_and_then, if◌then◌else◌}
+use Rattle.cg_base.specs.declared.limits.TheConstants.{COUNT_LIMIT}
 use Rattle.std.specs.List.{list_any}
 use Rattle.cg_codec.specs.Reading.{whole}
 use Rattle.cg_disk_records.specs.declared.change.Change.{Change}
@@ -16,7 +17,7 @@ old_change_in bytes = read_value (whole old_change_reading bytes)
 -- the parts are those of a checkpoint of this replica where they agree, and where there is room for many later
 -- generations
 abbrev pub old_saved_of : ℕ → Checkpoint → Option Saved
-old_saved_of id p = if nat_lt p.generation (2 ^ 62) then saved_of id p else None
+old_saved_of id p = if nat_lt p.generation COUNT_LIMIT then saved_of id p else None
 
 -- the checkpoint of this replica that all of the bytes are, if they are one
 unfoldable pub old_checkpoint_in : ℕ → List ℕ → Option Saved

@@ -1,7 +1,7 @@
 //! Checkpoints of the older format, and what they are in the newer one.
 
-ghost use Rattle.std.specs.Prelude.{◌≡◌, ◌++◌, ◌<◌, ◌≤◌, ◌^◌, ℕ, None, false, length, IfOk, OnOk, MatchOption};
-ghost use Rattle.cg_base.specs.declared.limits.TheConstants.{LIST_LIMIT};
+ghost use Rattle.std.specs.Prelude.{◌≡◌, ◌++◌, ◌<◌, ◌≤◌, ℕ, None, false, length, IfOk, OnOk, MatchOption};
+ghost use Rattle.cg_base.specs.declared.limits.TheConstants.{COUNT_LIMIT, LIST_LIMIT};
 ghost use Rattle.cg_codec.specs.Reading.{whole};
 ghost use Rattle.cg_codec.specs.Taking.{unread_of, TakesWithMemory, Decodes};
 ghost use Rattle.cg_disk_records.specs.Checkpoint.{spelled_kept, spelled_parts, parts_of};
@@ -14,7 +14,7 @@ ghost use Rattle.cg_older.specs.Reading.{old_kept_reading, old_checkpoint_readin
 use crate::lists::take_old_actions;
 use crate::reached::{put_old_reached, take_old_reached};
 use crate::stable::{put_old_stable, take_old_stable};
-use cg_base::{LIST_LIMIT, NoMemory};
+use cg_base::{COUNT_LIMIT, LIST_LIMIT, NoMemory};
 use cg_client::Core;
 use cg_codec::{CodecFault, Fields, put_u64};
 use cg_disk_records::{
@@ -23,9 +23,6 @@ use cg_disk_records::{
 };
 use cg_records::{put_stable, take_number};
 use std::alloc::Global;
-
-// a checkpoint of the older format has a generation below this, so that there is room for many later ones
-const GENERATION_LIMIT: u64 = 1 << 62;
 
 /// The checkpoint of the newer format that says the same as this one of the older format, of whatever replica, if it is
 /// one.
@@ -46,10 +43,11 @@ pub fn newer_checkpoint(alloc: Global, body: &[u8]) -> Result<Option<Vec<u8>>, N
 // the parts of a checkpoint in the bytes of the newer format, where their generation is one of the older
 fn newer_bytes(alloc: Global, checkpoint: &Checkpoint) -> Result<Option<Vec<u8>>, NoMemory>
     requires { AreParts checkpoint.now }
-    ensures { IfOk result (λ r. MatchOption r (2 ^ 62 ≤ checkpoint.now.generation)
-        (λ bytes. (checkpoint.now.generation < 2 ^ 62) × (bytes.items ≡ spelled_parts checkpoint.now))) }
+    ensures { IfOk result (λ r. MatchOption r (COUNT_LIMIT ≤ checkpoint.now.generation)
+        (λ bytes. (checkpoint.now.generation < COUNT_LIMIT) × (bytes.items ≡ spelled_parts checkpoint.now))) }
 {
-    if checkpoint.generation >= GENERATION_LIMIT {
+    // so that there is room for many later ones
+    if checkpoint.generation >= COUNT_LIMIT {
         return Ok(None);
     }
     let mut bytes = Vec::new(alloc);

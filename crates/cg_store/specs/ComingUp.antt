@@ -14,6 +14,7 @@ use Rattle.cg_store.specs.StoreState.{StoreState}
 use Rattle.cg_store.specs.declared.errors.OpenErr.{OpenErr}
 use Rattle.cg_store.specs.declared.errors.OpenErr.TheVariants.{Lost, NotAStore, NoMemory}
 
+-- the store of a disk that stood for a state, and the core that holds it
 pub record IsUp {D : Type 0} (view : D →
     DiskView) (id : ℕ) (old : DiskView) (store : StoreState D) (core : Held) : Type 0 where
   pub standing : Standing
@@ -31,6 +32,7 @@ pub record IsLostComingUp (id : ℕ) (old new : DiskView) : Type 0 where
   pub stands : StandsFor id old.reads standing
   pub lost : IsLostSettling id 5 standing old new
 
+-- memory was refused in one of them
 pub record IsRefusedComingUp (id : ℕ) (old new : DiskView) : Type 0 where
   pub standing : Standing
   pub stands : StandsFor id old.reads standing
