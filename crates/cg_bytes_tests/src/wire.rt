@@ -123,7 +123,7 @@ fn say_summary(out: &mut Vec<u8>, summary: &Summary) {
 fn say_message(out: &mut Vec<u8>, message: &Msg) {
     match message {
         Msg::Action(action) => say_action(out, action),
-        Msg::State(summary) => say_summary(out, summary),
+        Msg::State(summary) => say_summary(out, summary.get()),
         Msg::GreenItem { at, action } => {
             say_with(out, "green ", *at);
             say(out, ", ");

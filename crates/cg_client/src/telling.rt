@@ -12,7 +12,7 @@ use crate::{Components, Core, Draft, Own, is_number};
 use cg_base::{IdSet, LIST_LIMIT, NoMemory};
 use cg_knowledge::Summary;
 use cg_records::{Primary, Vulnerable, Yellow};
-use cg_wire::Msg;
+use cg_wire::{BoxedSummary, Msg};
 use std::mem::replace;
 
 impl Core {
@@ -152,7 +152,7 @@ impl Core {
             enter_exchange (turn_with self.old state draft.old) conf set) }
     {
         self.own_to_red(draft)?;
-        let summary = self.summary(conf)?;
+        let summary = BoxedSummary::new(self.held.alloc, self.summary(conf)?)?;
         draft.send(Msg::State(summary))
     }
 }

@@ -133,7 +133,7 @@ impl ExchangeStates {
         ensures record { IfOk result HasRecord }
     {
         match message {
-            Msg::State(summary) => self.hear_summary(draft, from, summary),
+            Msg::State(summary) => self.hear_summary(draft, from, summary.into_summary()),
             _ => Ok(ExchangeStep::States(self)),
         }
     }

@@ -6,11 +6,13 @@
 //! from the left. What a message does is left to the layers above.
 #![tactic(auto)]
 
+mod boxed_summary;
 mod laws;
 mod message;
 mod reading;
 mod writing;
 
+pub use boxed_summary::BoxedSummary;
 pub use laws::{messages_are_exact, messages_stand_apart};
 pub use message::Msg;
 pub use reading::{decode, read_message};

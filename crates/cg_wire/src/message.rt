@@ -1,6 +1,6 @@
+use crate::BoxedSummary;
 use cg_action::Action;
 use cg_base::ReplicaId;
-use cg_knowledge::Summary;
 
 /// A message between replicas.
 #[derive(Drop)]
@@ -8,7 +8,7 @@ pub enum Msg {
     /// An action that is to be ordered.
     Action(Action),
     /// What a member tells as it enters an exchange.
-    State(Summary),
+    State(BoxedSummary),
     /// The green action at a place, sent again.
     GreenItem { at: u64, action: Action },
     /// A red action, sent again.

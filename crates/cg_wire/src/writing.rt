@@ -19,9 +19,17 @@ pub fn encode(alloc: Global, m: &Msg) -> Result<Bytes, NoMemory>
     requires { IsMsg m.now }
     ensures { IfOk result (λ bytes. bytes ≡ spelled_msg m.now) }
 {
-    let mut out = Vec::new(alloc);
+    let mut out = Vec::with_capacity(alloc, room_for(m))?;
     write_msg(&mut out, m)?;
     Ok(Bytes::from_vec(out))
+}
+
+// room that most messages of the kind need
+fn room_for(m: &Msg) -> usize {
+    match m {
+        Msg::State(_) => 256,
+        _ => 64,
+    }
 }
 
 #[tactic(auto, unfolding(crate::specs::Bytes::spelled_msg))]
@@ -36,7 +44,7 @@ fn write_msg(out: &mut Vec<u8>, m: &Msg) -> Result<(), NoMemory>
         }
         Msg::State(s) => {
             put_u8(out, 2)?;
-            write_summary(out, s)
+            write_summary(out, s.get())
         }
         Msg::GreenItem { at, action } => {
             put_u8(out, 3)?;
