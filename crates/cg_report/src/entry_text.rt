@@ -3,12 +3,17 @@
 ghost use Rattle.std.specs.Prelude.{◌≡◌, ◌++◌, Some, OnOk, OnErr, codes, decimal};
 ghost use Rattle.std.specs.List.{flat_map};
 ghost use Rattle.std.specs.Fmt.{WritesOnOk};
+ghost use Rattle.cg_base.specs.Fronts.{KeepsFront};
 ghost use Rattle.cg_report.specs.EntryText.{made_line, order_line, ended_line, reply_line, shown_line, body_text, entry_text};
 
+use crate::page::{HasFront, Page};
+use crate::putting_entry::put_numbered;
 use crate::{Entry, Line, Made, Placed, Reply, Shown};
-use cg_base::{NoMemory, put_shown};
+use cg_base::NoMemory;
 use std::fmt;
 use std::fmt::{Display, Formatter, Write};
+use std::marker::Brand;
+use std::mem::replace;
 
 /// All of it, each part with its line's end.
 impl Display for Entry {
@@ -68,21 +73,6 @@ fn write_shown<W: Write>(f: &mut Formatter<W>, shown: &[Shown]) -> fmt::Result
     Ok(())
 }
 
-// what a step with this number shows, where it shows anything
-#[derive(Clone, Copy)]
-struct Numbered<'a> {
-    step: u64,
-    entry: &'a Entry,
-}
-
-impl Display for Numbered<'_> {
-    ghost output = { λ n. Some (codes "= " ++ decimal n.step ++ codes "\n" ++ body_text n.entry.now) };
-
-    fn fmt<W: Write>(&self, f: &mut Formatter<W>) -> fmt::Result {
-        write!(f, "= {}\n{}", self.step, self.entry)
-    }
-}
-
 /// What a step puts: nothing where it shows nothing, and else its number and what it shows. Where memory is refused nothing is
 /// put.
 pub fn put_entry(out: &mut Vec<u8>, step: u64, entry: &Entry) -> Result<(), NoMemory>
@@ -92,5 +82,26 @@ pub fn put_entry(out: &mut Vec<u8>, step: u64, entry: &Entry) -> Result<(), NoMe
     if entry.is_silent() {
         return Ok(());
     }
-    put_shown(out, &Numbered { step, entry })
+    let count = out.len();
+    let none = Vec::new(*out.allocator());
+    let (bytes, result) = numbered_behind::<Brand>(replace(out, none), step, entry);
+    *out = bytes;
+    if result.is_err() {
+        out.truncate(count);
+    }
+    result
+}
+
+fn numbered_behind<F: HasFront>(
+    bytes: Vec<u8>,
+    step: u64,
+    entry: &Entry,
+) -> (Vec<u8>, Result<(), NoMemory>)
+    requires { bytes.items ≡ F.front }
+    ensures ok { OnOk result.1 (result.0.items ≡ bytes.items ++ (codes "= " ++ decimal step ++ codes "\n" ++ body_text entry.now)) }
+    ensures front { KeepsFront bytes.items result.0.items }
+{
+    let mut page: Page<F> = Page::behind(bytes);
+    let result = put_numbered(&mut page, step, entry);
+    (page.into_bytes(), result)
 }

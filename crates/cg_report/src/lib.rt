@@ -9,6 +9,10 @@ mod entry;
 mod entry_text;
 mod line;
 mod line_text;
+mod page;
+mod plain_text;
+mod putting_entry;
+mod putting_line;
 mod reply_text;
 mod shown_text;
 

@@ -1,13 +1,18 @@
 //! The line of a replica.
 
 ghost use Rattle.std.specs.Prelude.{◌≡◌, ◌++◌, Some, OnOk, OnErr};
+ghost use Rattle.cg_base.specs.Fronts.{KeepsFront};
 ghost use Rattle.cg_report.specs.LineText.{state_text, phase_text, prim_text, vulnerable_text, yellow_text, view_text, up_text, line_text};
 
+use crate::page::{HasFront, Page};
+use crate::putting_line::put_line_text;
 use crate::{Line, ShownPhase, StateName, UpLine, View};
-use cg_base::{NoMemory, put_shown};
+use cg_base::NoMemory;
 use cg_records::{Primary, Vulnerable, Yellow};
 use std::fmt;
 use std::fmt::{Display, Formatter, Write};
+use std::marker::Brand;
+use std::mem::replace;
 
 impl Display for StateName {
     ghost output = { λ state. Some (state_text state) };
@@ -127,5 +132,22 @@ pub fn put_line(out: &mut Vec<u8>, line: &Line) -> Result<(), NoMemory>
     ensures ok { OnOk result (out.new.items ≡ out.old.items ++ line_text line.now) }
     ensures err { OnErr result (out.new.items ≡ out.old.items) }
 {
-    put_shown(out, line)
+    let count = out.len();
+    let none = Vec::new(*out.allocator());
+    let (bytes, result) = line_behind::<Brand>(replace(out, none), line);
+    *out = bytes;
+    if result.is_err() {
+        out.truncate(count);
+    }
+    result
+}
+
+fn line_behind<F: HasFront>(bytes: Vec<u8>, line: &Line) -> (Vec<u8>, Result<(), NoMemory>)
+    requires { bytes.items ≡ F.front }
+    ensures ok { OnOk result.1 (result.0.items ≡ bytes.items ++ line_text line.now) }
+    ensures front { KeepsFront bytes.items result.0.items }
+{
+    let mut page: Page<F> = Page::behind(bytes);
+    let result = put_line_text(&mut page, line);
+    (page.into_bytes(), result)
 }
