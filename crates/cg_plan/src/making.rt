@@ -1,6 +1,6 @@
 ghost use Rattle.std.specs.Prelude.{◌≡◌, ◌++◌, Some, OnOk, IfOk};
 ghost use Rattle.std.specs.Option.{option_copied};
-ghost use Rattle.cg_knowledge.specs.Summaries.{most_updated as most_updated_of};
+ghost use Rattle.cg_knowledge.specs.Summaries.{most_updated as most_updated_of, remaining as remaining_of};
 ghost use Rattle.cg_plan.specs.Plan.{least_greens as least_greens_of, green_part, farther as farther_of, farthest as farthest_of, least_reds as least_reds_of, reds_of, creators as creators_of, plan_of};
 
 use crate::{Part, SentPart};
@@ -23,12 +23,12 @@ fn least_greens(summaries: &[Summary]) -> Option<u64>
     least
 }
 
-// the creator's actions that each remaining member knows
+// the creator's actions that each of these members knows, who are the remaining ones
 #[tactic(auto, unfolding(crate::specs::Plan::least_reds, crate::specs::Plan::of_remaining))]
-fn least_reds(summaries: &[Summary], creator: ReplicaId) -> Option<u64>
+fn least_reds(summaries: &[Summary], present: &IdSet, creator: ReplicaId) -> Option<u64>
+    requires { present.now ≡ remaining_of summaries.now }
     ensures { result ≡ least_reds_of summaries.now creator }
 {
-    let present = remaining(summaries);
     let mut least = None;
     for s in summaries {
         if present.contains(s.id) {
@@ -103,21 +103,26 @@ fn push_greens(turns: &mut Vec<SentPart>, summaries: &[Summary]) -> Result<(), N
     Ok(())
 }
 
+// the part of one creator, given the most updated member and those who remain
 #[tactic(auto, unfolding(crate::specs::Plan::reds_of))]
 fn push_reds(
     turns: &mut Vec<SentPart>,
     summaries: &[Summary],
+    best: Option<&Summary>,
+    present: &IdSet,
     creator: ReplicaId,
 ) -> Result<(), NoMemory>
+    requires best { option_copied best ≡ most_updated_of summaries.now }
+    requires present { present.now ≡ remaining_of summaries.now }
     ensures { OnOk result (turns.new.items ≡ turns.old.items ++ reds_of summaries.now creator) }
 {
-    let Some(best) = most_updated(summaries) else {
+    let Some(best) = best else {
         return Ok(());
     };
     let Some(holder) = farthest(summaries, creator) else {
         return Ok(());
     };
-    let Some(low) = least_reds(summaries, creator) else {
+    let Some(low) = least_reds(summaries, present, creator) else {
         return Ok(());
     };
     let from = low.max(best.green_cut.get(creator));
@@ -143,9 +148,12 @@ pub(crate) fn turns_of(alloc: Global, summaries: &[Summary]) -> Result<Vec<SentP
 {
     let mut turns = Vec::new(alloc);
     push_greens(&mut turns, summaries)?;
+    // the same for each creator
+    let best = most_updated(summaries);
+    let present = remaining(summaries);
     let set = creators(summaries);
     for creator in set.iter() {
-        push_reds(&mut turns, summaries, creator)?;
+        push_reds(&mut turns, summaries, best, &present, creator)?;
     }
     Ok(turns)
 }
