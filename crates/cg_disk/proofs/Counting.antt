@@ -5,15 +5,14 @@ use Rattle.cg_disk.specs.State.{SideState, DiskState, Fails, Leaves, LeavesSide,
 use Rattle.cg_disk.specs.Writes.{Only}
 use Rattle.cg_disk.specs.Undo.{side_after}
 use Rattle.cg_disk.specs.Armed.{strike_of}
-use Rattle.cg_disk.specs.Past.{MayHaveLeft, last_call}
-use Rattle.cg_disk.specs.Model.{writes_of, side_of, points_of, state_of, view_of, SameSides, HasPoint, IsClear, Settles, Counts}
+use Rattle.cg_disk.specs.Past.{SyncPoint, MayHaveLeft, last_call}
+use Rattle.cg_disk.specs.Model.{writes_of, side_of, points_of, state_of, view_of, SameSides, Settles, Counts}
 use Rattle.cg_disk.specs.Calls as calls
 use Rattle.std.proofs.lemmas.Bool.Decides.{nat_tests}
 use Rattle.cg_disk.specs.declared.armed.Armed.{Armed}
 use Rattle.cg_disk.specs.declared.armed.Armed.TheVariants.{Nothing, Failure, Stop}
 use Rattle.cg_disk.specs.declared.disk.DiskFault.{DiskFault}
 use Rattle.cg_disk.specs.declared.disk.DiskFault.TheVariants.{Failed, NoMemory}
-use Rattle.cg_disk.specs.declared.sync_point.SyncPoint.{SyncPoint}
 use Rattle.cg_disk.specs.declared.model_side.ModelSide.{ModelSide}
 use Rattle.cg_disk.specs.declared.model_disk.ModelDisk.{ModelDisk}
 use Rattle.cg_disk.proofs.Images.{filled_leaves, seen_leaves, only_seen}
@@ -42,20 +41,17 @@ moved a a' b b' n n' k k' points points' t c ea eb en ek em left =
 pub same_side : (s t : ModelSide) → t.bytes.items ≡ s.bytes.items → t.unsynced.items ≡ s.unsynced.items → side_of t ≡ side_of s
 same_side s t bytes writes = λ i. side_after (bytes i) (reverse (writes i))
 
-pub same_points : (m n : ModelDisk) → n.past.items ≡ m.past.items → points_of n ≡ points_of m
-same_points m n past = ap reverse past
-
 -- a call more that settles nothing, on sides that may have grown
-module _ (m n : ModelDisk) (called : n.calls ≡ suc m.calls) (begun : n.begun ≡ m.begun) (past : n.past.items ≡ m.past.items) where
+module _ (m n : ModelDisk) (called : n.calls ≡ suc m.calls) (begun : n.begun ≡ m.begun) (past : n.past ≡ m.past) where
   pub grown_elapses : (side_of n.a).old ≡ (side_of m.a).old → (side_of n.b).old ≡ (side_of m.b).old → ((c : Image) → Leaves (side_of m.a) (side_of m.b) c → Leaves (side_of n.a) (side_of n.b) c) → calls.Elapses (view_of m) (view_of n)
   grown_elapses old_a old_b grow =
       let before = counted_before m in
       record {
         nothing_else = λ t c le left.
             more_nothing_else (side_of m.a) (side_of m.b) m.calls m.begun (points_of m) before.0 before.1 (side_of n.a) (side_of n.b) old_a old_b t c le
-            (moved (side_of n.a) (side_of n.a) (side_of n.b) (side_of n.b) n.calls (suc m.calls) n.begun m.begun (points_of n) (points_of m) t c refl refl called begun (same_points m n past) left);
+            (moved (side_of n.a) (side_of n.a) (side_of n.b) (side_of n.b) n.calls (suc m.calls) n.begun m.begun (points_of n) (points_of m) t c refl refl called begun past left);
         keeps = λ t c le left.
-            moved (side_of n.a) (side_of n.a) (side_of n.b) (side_of n.b) (suc m.calls) n.calls m.begun n.begun (points_of m) (points_of n) t c refl refl (sym called) (sym begun) (sym (same_points m n past))
+            moved (side_of n.a) (side_of n.a) (side_of n.b) (side_of n.b) (suc m.calls) n.calls m.begun n.begun (points_of m) (points_of n) t c refl refl (sym called) (sym begun) (sym past)
             (more_keeps (side_of m.a) (side_of m.b) m.calls m.begun (points_of m) before.0 before.1 (side_of n.a) (side_of n.b) old_a old_b grow t c le left);
       }
 
@@ -101,29 +97,22 @@ module _ (m n : ModelDisk) (settles : Settles m n) where
   settled_looks called = record {
     reads = λ i. record { a = settles.bytes_a i; b = settles.bytes_b i };
     images = settled_images;
-    elapses = ⊎_elim with_point clear settles.past;
+    elapses =
+        let is = settles.past in
+        let before = counted_before m in
+        let a : side_of n.a ≡ side_after m.a.bytes.items [] = clean_a in
+        let b : side_of n.b ≡ side_after m.b.bytes.items [] = clean_b in
+        record {
+          nothing_else = λ t c le left. ⊎_elim
+              (λ past. inl past)
+              (λ now. inr (subst (λ x. Leaves x (side_of n.b) c) (sym a) (subst (λ y. Leaves (side_after m.a.bytes.items []) y c) (sym b) now)))
+              (settled_nothing_else m.a.bytes.items m.b.bytes.items (writes_of m.a) (writes_of m.b) m.calls m.begun is.point (points_of m) before.0 before.1 (is.call ∙ called) is.a is.b t c le
+              (moved (side_of n.a) (side_after m.a.bytes.items []) (side_of n.b) (side_after m.b.bytes.items []) n.calls (suc m.calls) n.begun m.begun (points_of n) (is.point ∷ points_of m) t c a b called settles.begun is.more left));
+          keeps = λ t c le left.
+              moved (side_after m.a.bytes.items []) (side_of n.a) (side_after m.b.bytes.items []) (side_of n.b) (suc m.calls) n.calls m.begun n.begun (is.point ∷ points_of m) (points_of n) t c (sym a) (sym b) (sym called) (sym settles.begun) (sym is.more)
+              (settled_keeps m.a.bytes.items m.b.bytes.items (writes_of m.a) (writes_of m.b) m.calls m.begun is.point (points_of m) before.0 before.1 (is.call ∙ called) is.a is.b t c le left);
+        };
   }
-    where
-      with_point : HasPoint m n → calls.Elapses (view_of m) (view_of n)
-      with_point is =
-          let before = counted_before m in
-          let a : side_of n.a ≡ side_after m.a.bytes.items [] = clean_a in
-          let b : side_of n.b ≡ side_after m.b.bytes.items [] = clean_b in
-          record {
-            nothing_else = λ t c le left. ⊎_elim
-                (λ past. inl past)
-                (λ now. inr (subst (λ x. Leaves x (side_of n.b) c) (sym a) (subst (λ y. Leaves (side_after m.a.bytes.items []) y c) (sym b) now)))
-                (settled_nothing_else m.a.bytes.items m.b.bytes.items (writes_of m.a) (writes_of m.b) m.calls m.begun is.point (points_of m) before.0 before.1 (is.call ∙ called) is.a is.b t c le
-                (moved (side_of n.a) (side_after m.a.bytes.items []) (side_of n.b) (side_after m.b.bytes.items []) n.calls (suc m.calls) n.begun m.begun (points_of n) (is.point ∷ points_of m) t c a b called settles.begun is.more left));
-            keeps = λ t c le left.
-                moved (side_after m.a.bytes.items []) (side_of n.a) (side_after m.b.bytes.items []) (side_of n.b) (suc m.calls) n.calls m.begun n.begun (is.point ∷ points_of m) (points_of n) t c (sym a) (sym b) (sym called) (sym settles.begun) (sym is.more)
-                (settled_keeps m.a.bytes.items m.b.bytes.items (writes_of m.a) (writes_of m.b) m.calls m.begun is.point (points_of m) before.0 before.1 (is.call ∙ called) is.a is.b t c le left);
-          }
-
-      clear : IsClear m n → calls.Elapses (view_of m) (view_of n)
-      clear is =
-          let same : SameSides m n = record { bytes_a = settles.bytes_a; bytes_b = settles.bytes_b; writes_a = settles.writes_a ∙ sym is.a; writes_b = settles.writes_b ∙ sym is.b; past = is.past; begun = settles.begun } in
-          (same_looks m n same called).elapses
 
   -- a call that fails once
   pub fails : (cut : DiskState → DiskState) → n.calls ≡ suc m.calls → m.faults < n.faults → blow_at (strike_of m.calls m.armed) n.calls ≡ Some Fails → strike_of n.calls n.armed ≡ None → calls.Fails cut (view_of m) (view_of n)
@@ -151,10 +140,9 @@ settles_after m k n same settles = record {
   writes_a = settles.writes_a;
   writes_b = settles.writes_b;
   begun = settles.begun ∙ same.begun;
-  past = ⊎_elim
-      (λ is. inl (record { point = is.point; more = is.more ∙ ap (λ points. is.point ∷ points) (same_points m k same.past); call = is.call; a = is.a ∙ ap reverse same.writes_a; b = is.b ∙ ap reverse same.writes_b }))
-      (λ is. inr (record { a = sym same.writes_a ∙ is.a; b = sym same.writes_b ∙ is.b; past = is.past ∙ same.past }))
-      settles.past;
+  past =
+      let is = settles.past in
+      record { point = is.point; more = is.more ∙ ap (λ points. is.point ∷ points) same.past; call = is.call; a = is.a ∙ ap reverse same.writes_a; b = is.b ∙ ap reverse same.writes_b };
 }
 
 -- a call that only looks, however it is counted

@@ -4,9 +4,9 @@ use Rattle.std.proofs.lemmas.List.{take_all, drop_min}
 use Rattle.cg_disk.specs.Sides.{Image}
 use Rattle.cg_disk.specs.State.{SideState, DiskStrike, Leaves, left_by, synced_side}
 use Rattle.cg_disk.specs.View.{IsAtRest}
-use Rattle.cg_disk.specs.Crashes.{IsCrashed, clean_side}
+use Rattle.cg_disk.specs.Crashes.{IsCrashed, IsCopy, clean_side}
 use Rattle.cg_disk.specs.Model.{side_of, state_of, view_of, view_with}
-use Rattle.cg_disk.specs.declared.sync_point.SyncPoint.{SyncPoint}
+use Rattle.cg_disk.specs.Past.{SyncPoint}
 use Rattle.cg_disk.specs.declared.model_disk.ModelDisk.{ModelDisk}
 use Rattle.cg_disk.proofs.Images.{only_seen}
 use Rattle.cg_disk.proofs.Counting.{has_images}
@@ -34,6 +34,15 @@ module _ (a b : SideState) (calls faults begun : ℕ) (points : List SyncPoint) 
         time = same_calls;
         faults = same_faults;
       }
+
+  pub copied : (m : ModelDisk) → a ≡ clean_side m.a.bytes.items → b ≡ clean_side m.b.bytes.items → calls ≡ 0 → faults ≡ 0 → IsCopy (view_of m) (view_with a b None calls faults begun points)
+  copied m clean_a clean_b no_calls no_faults = record {
+    reads = λ i. record { a = (clean_a i).seen; b = (clean_b i).seen };
+    state = λ i. Some (record { a = clean_a i; b = clean_b i; strike = None });
+    time = no_calls;
+    faults = no_faults;
+    rest = rests None m.a.bytes.items m.b.bytes.items clean_a clean_b;
+  }
 
 -- what is left of the fill behind the offsets that it filled
 pub rest_of_fill : (used count : ℕ) (fill : List ℕ) → used ≡ min count (length fill) → take (length fill - used) (drop used fill) ≡ drop count fill

@@ -3,9 +3,8 @@ use Rattle.std.proofs.Common.{◌≡◌, inl, inr, ⊎_elim, ◌⊎◌, ℕ, suc
 use Rattle.cg_disk.specs.Sides.{Image}
 use Rattle.cg_disk.specs.State.{SideState, Leaves}
 use Rattle.cg_disk.specs.Undo.{undone, side_after}
-use Rattle.cg_disk.specs.Past.{HadLeft, MayHaveLeft, last_call, settled_a, settled_b}
+use Rattle.cg_disk.specs.Past.{SyncPoint, HadLeft, MayHaveLeft, last_call, settled_a, settled_b}
 use Rattle.cg_disk.specs.declared.written.Written.{Written}
-use Rattle.cg_disk.specs.declared.sync_point.SyncPoint.{SyncPoint}
 
 -- a crash before a sync point was before the last of them
 pub had_before : (a b : List ℕ) (points : List SyncPoint) (t : ℕ) (c : Image) → HadLeft a b points t c → t < last_call points

@@ -5,11 +5,10 @@ use Rattle.cg_disk.specs.Sides.{Image}
 use Rattle.cg_disk.specs.State.{SideState, Leaves}
 use Rattle.cg_disk.specs.View.{IsView}
 use Rattle.cg_disk.specs.Armed.{strike_of}
-use Rattle.cg_disk.specs.Past.{MayHaveLeft}
+use Rattle.cg_disk.specs.Past.{SyncPoint, MayHaveLeft}
 use Rattle.cg_disk.specs.Model.{points_of, side_of, view_of}
 use Rattle.cg_disk.specs.declared.armed.Armed.{Armed}
 use Rattle.cg_disk.specs.declared.armed.Armed.TheVariants.{Nothing, Failure, Stop}
-use Rattle.cg_disk.specs.declared.sync_point.SyncPoint.{SyncPoint}
 use Rattle.cg_disk.specs.declared.model_disk.ModelDisk.{ModelDisk}
 
 -- what is armed is still to come

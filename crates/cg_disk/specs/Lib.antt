@@ -7,5 +7,6 @@ pub mod Crashes
 pub mod Undo
 pub mod Armed
 pub mod Past
+pub mod Points
 pub mod Model
 pub mod Law

@@ -4,12 +4,11 @@ use Rattle.cg_disk.specs.State.{SideState, DiskState, DiskStrike, Fails, Stops, 
 use Rattle.cg_disk.specs.View.{DiskView}
 use Rattle.cg_disk.specs.Undo.{side_after}
 use Rattle.cg_disk.specs.Armed.{strike_of}
-use Rattle.cg_disk.specs.Past.{MayHaveLeft}
+use Rattle.cg_disk.specs.Past.{SyncPoint, MayHaveLeft}
 use Rattle.cg_disk.specs.declared.disk.Side.{Side}
 use Rattle.cg_disk.specs.declared.disk.DiskFault.{DiskFault}
 use Rattle.cg_disk.specs.declared.disk.DiskFault.TheVariants.{Failed, NoMemory}
 use Rattle.cg_disk.specs.declared.written.Written.{Written}
-use Rattle.cg_disk.specs.declared.sync_point.SyncPoint.{SyncPoint}
 use Rattle.cg_disk.specs.declared.model_side.ModelSide.{ModelSide}
 use Rattle.cg_disk.specs.declared.model_disk.ModelDisk.{ModelDisk}
 
@@ -20,7 +19,7 @@ abbrev pub side_of : ModelSide → SideState
 side_of s = side_after s.bytes.items (writes_of s)
 
 abbrev pub points_of : ModelDisk → List SyncPoint
-points_of m = reverse m.past.items
+points_of m = m.past
 
 abbrev pub state_of : ModelDisk → DiskState
 state_of m = record { a = side_of m.a; b = side_of m.b; strike = strike_of m.calls m.armed }
@@ -46,7 +45,7 @@ pub record SameSides (old new : ModelDisk) : Type 0 where
   pub bytes_b : new.b.bytes.items ≡ old.b.bytes.items
   pub writes_a : new.a.unsynced.items ≡ old.a.unsynced.items
   pub writes_b : new.b.unsynced.items ≡ old.b.unsynced.items
-  pub past : new.past.items ≡ old.past.items
+  pub past : new.past ≡ old.past
   pub begun : new.begun ≡ old.begun
 
 -- a sync point with all writes since the last one was added
@@ -54,14 +53,8 @@ pub record HasPoint (old new : ModelDisk) : Type 0 where
   pub point : SyncPoint
   pub more : points_of new ≡ point ∷ points_of old
   pub call : point.call ≡ new.calls
-  pub a : reverse point.a.items ≡ writes_of old.a
-  pub b : reverse point.b.items ≡ writes_of old.b
-
--- there was nothing to settle
-pub record IsClear (old new : ModelDisk) : Type 0 where
-  pub a : old.a.unsynced.items ≡ []
-  pub b : old.b.unsynced.items ≡ []
-  pub past : new.past.items ≡ old.past.items
+  pub a : reverse point.a ≡ writes_of old.a
+  pub b : reverse point.b ≡ writes_of old.b
 
 -- all writes count as synced
 pub record Settles (old new : ModelDisk) : Type 0 where
@@ -70,7 +63,7 @@ pub record Settles (old new : ModelDisk) : Type 0 where
   pub writes_a : new.a.unsynced.items ≡ []
   pub writes_b : new.b.unsynced.items ≡ []
   pub begun : new.begun ≡ old.begun
-  pub past : HasPoint old new ⊎ IsClear old new
+  pub past : HasPoint old new
 
 -- a call was counted that nothing strikes
 pub record IsCounted (old new : ModelDisk) : Type 0 where
@@ -106,5 +99,5 @@ Counts old new (Err NoMemory) = ⊥
 pub record IsWritten (side : Side) (offset : ℕ) (bytes : List ℕ) (old new : ModelDisk) : Type 0 where
   pub a : side_of new.a ≡ (wrote side offset bytes (state_of old)).a
   pub b : side_of new.b ≡ (wrote side offset bytes (state_of old)).b
-  pub past : new.past.items ≡ old.past.items
+  pub past : new.past ≡ old.past
   pub begun : new.begun ≡ old.begun

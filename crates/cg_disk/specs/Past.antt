@@ -5,14 +5,19 @@ use Rattle.cg_disk.specs.Sides.{Image}
 use Rattle.cg_disk.specs.State.{SideState, Leaves}
 use Rattle.cg_disk.specs.Undo.{undone, side_after}
 use Rattle.cg_disk.specs.declared.written.Written.{Written}
-use Rattle.cg_disk.specs.declared.sync_point.SyncPoint.{SyncPoint}
+
+-- a call that settled the writes before it, a sync or a failed one: its number, and these writes of each side, the oldest first
+pub record SyncPoint : Type 0 where
+  pub call : ℕ
+  pub a : List Written
+  pub b : List Written
 
 -- the writes that a sync point settled, the newest first
 abbrev pub settled_a : SyncPoint → List Written
-settled_a m = reverse m.a.items
+settled_a m = reverse m.a
 
 abbrev pub settled_b : SyncPoint → List Written
-settled_b m = reverse m.b.items
+settled_b m = reverse m.b
 
 -- with these bytes after the newest of these sync points, a crash just before one of them, after a time, may have left this
 abbrev pub HadLeft : List ℕ → List ℕ → List SyncPoint → ℕ → Image → Type 0

@@ -12,7 +12,7 @@ mod crash;
 mod disk;
 mod model_disk;
 mod model_side;
-mod sync_point;
+mod past;
 mod written;
 
 pub use disk::{Disk, DiskFault, Side};

@@ -1,18 +1,17 @@
 //! A disk in memory.
-ghost use Rattle.std.specs.Prelude.{◌≡◌, ◌+◌, ◌<◌, ◌≤◌, [], length, OnOk, OnErr, reverse, vec_len, vec_capacity};
+ghost use Rattle.std.specs.Prelude.{◌≡◌, ◌+◌, ◌<◌, ◌≤◌, [], length, OnOk, OnErr};
 ghost use Rattle.cg_base.specs.declared.limits.TheConstants.{COUNT_LIMIT, NUMBER_LIMIT};
 ghost use Rattle.cg_disk.specs.Past.{last_call};
 
 use crate::armed::Armed;
 use crate::model_side::ModelSide;
-use crate::sync_point::SyncPoint;
+use crate::past::Past;
 use crate::{Disk, DiskFault, Side};
 use cg_base::NoMemory;
 use std::alloc::Global;
-use std::mem::replace;
 
-/// A disk in memory whose calls can be made to fail. It keeps what it needs to tell what a crash may have left at each
-/// moment since the last `begin`: each sync point has the writes that it settled, with the bytes that they wrote over.
+/// A disk in memory whose calls can be made to fail. Clauses see what a crash may have left at each moment since the last
+/// `begin`; of the writes it keeps only those since the last sync, with the bytes that they wrote over.
 #[derive(Drop)]
 pub struct ModelDisk {
     alloc: Global,
@@ -22,9 +21,8 @@ pub struct ModelDisk {
     calls: u64,
     faults: u64,
     begun: u64,
-    past: Vec<SyncPoint>,
-    ghost counted: { (faults ≤ calls) × (begun ≤ calls) × (last_call (reverse past.items) ≤ calls) },
-    ghost room: { 0 < vec_len a.unsynced + vec_len b.unsynced → vec_len past < vec_capacity past },
+    past: Past,
+    ghost counted: { (faults ≤ calls) × (begun ≤ calls) × (last_call past ≤ calls) },
 }
 
 impl ModelDisk {
@@ -32,7 +30,7 @@ impl ModelDisk {
     ghost use Rattle.std.specs.Prelude.{IsErrOf};
     ghost use Rattle.cg_disk.specs.Calls.{Looks, Ends, HasImages};
     ghost use Rattle.cg_disk.specs.State.{looked, Fails, Stops};
-    ghost use Rattle.cg_disk.specs.Crashes.{IsNew, Arms, IsCrashed};
+    ghost use Rattle.cg_disk.specs.Crashes.{IsNew, Arms, Disarms, IsCopy, IsCrashed};
     ghost use Rattle.std.specs.Prelude.{IfOk};
     ghost use Rattle.cg_disk.specs.Sides.{bytes_of};
 
@@ -48,7 +46,7 @@ impl ModelDisk {
             calls: 0,
             faults: 0,
             begun: 0,
-            past: Vec::new(alloc),
+            past: Past::nothing(),
         }
     }
 
@@ -66,6 +64,38 @@ impl ModelDisk {
         ensures { Arms Stops n (⟦<ModelDisk as Disk>⟧.view self.old) (⟦<ModelDisk as Disk>⟧.view self.new) }
     {
         self.armed = Armed::Stop(n - 1);
+    }
+
+    /// Nothing is armed any more.
+    pub fn disarm(&mut self)
+        ensures { Disarms (⟦<ModelDisk as Disk>⟧.view self.old) (⟦<ModelDisk as Disk>⟧.view self.new) }
+    {
+        self.armed = Armed::Nothing;
+    }
+
+    /// Another disk with the bytes that a read gives, all of them synced, with nothing armed.
+    pub fn copy(&self) -> Result<ModelDisk, NoMemory>
+        ensures { IfOk result (λ disk. IsCopy
+            (⟦<ModelDisk as Disk>⟧.view self.now) (⟦<ModelDisk as Disk>⟧.view disk)) }
+    {
+        let alloc = self.alloc;
+        let a = Vec::from_slice(alloc, &self.a.bytes)?;
+        let b = Vec::from_slice(alloc, &self.b.bytes)?;
+        Ok(ModelDisk {
+            alloc,
+            a: ModelSide::new(alloc, a),
+            b: ModelSide::new(alloc, b),
+            armed: Armed::Nothing,
+            calls: 0,
+            faults: 0,
+            begun: 0,
+            past: Past::nothing(),
+        })
+    }
+
+    /// From where its memory is taken.
+    pub fn alloc(&self) -> Global {
+        self.alloc
     }
 
     /// The device calls made so far.
@@ -102,7 +132,7 @@ impl ModelDisk {
             calls,
             faults,
             begun: calls,
-            past: Vec::new(alloc),
+            past: Past::nothing(),
         })
     }
 
@@ -113,18 +143,9 @@ impl ModelDisk {
         ensures calls { self.new.calls ≡ self.old.calls }
         ensures faults { self.new.faults ≡ self.old.faults }
     {
-        if self.a.unsynced.is_empty() && self.b.unsynced.is_empty() {
-            return;
-        }
-        let point = SyncPoint {
-            call: self.calls,
-            a: replace(&mut self.a.unsynced, Vec::new(self.alloc)),
-            b: replace(&mut self.b.unsynced, Vec::new(self.alloc)),
-        };
-        match self.past.push(point) {
-            Ok(()) => (),
-            Err(_) => unreachable!(),
-        }
+        self.past = self.past.with(self.calls, &self.a, &self.b);
+        self.a.settle();
+        self.b.settle();
     }
 
     // Counts a call, and strikes it where that is armed.
@@ -177,7 +198,6 @@ impl ModelDisk {
         ensures calls { self.new.calls ≡ self.old.calls }
         ensures faults { self.new.faults ≡ self.old.faults }
     {
-        self.past.reserve(1)?;
         match side {
             Side::A => self.a.write(self.alloc, offset, bytes),
             Side::B => self.b.write(self.alloc, offset, bytes),
@@ -243,7 +263,7 @@ impl Disk for ModelDisk {
     }
 
     fn begin(&mut self) {
-        self.past.clear();
+        self.past = Past::nothing();
         self.begun = self.calls;
     }
 }

@@ -55,6 +55,14 @@ impl ModelSide {
         }
     }
 
+    /// All writes count as synced from here on. It takes no memory.
+    pub fn settle(&mut self)
+        ensures bytes { self.new.bytes.items ≡ self.old.bytes.items }
+        ensures unsynced { self.new.unsynced.items ≡ [] }
+    {
+        self.unsynced.clear();
+    }
+
     /// How many offsets were written since the last sync.
     pub fn unsynced_offsets(&self) -> usize
         ensures { result ≡ unsynced_from (side_of self.now) 0 self.now.bytes.items }

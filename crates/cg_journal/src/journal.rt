@@ -217,10 +217,10 @@ impl<D: Disk> Journal<D> {
     }
 }
 
-/// The three calls of a disk in memory, passed on to it.
+/// The four calls of a disk in memory, passed on to it.
 impl Journal<ModelDisk> {
     ghost use Rattle.cg_disk.specs.State.{Fails, Stops};
-    ghost use Rattle.cg_disk.specs.Crashes.{Arms};
+    ghost use Rattle.cg_disk.specs.Crashes.{Arms, Disarms};
 
     /// Arms the nth next device call, n at least 1, to fail once.
     pub fn fail_at(&mut self, n: u64)
@@ -236,6 +236,13 @@ impl Journal<ModelDisk> {
         ensures { Arms Stops n (⟦<ModelDisk as Disk>⟧.view self.old) (⟦<ModelDisk as Disk>⟧.view self.new) }
     {
         self.disk.stop_at(n);
+    }
+
+    /// Nothing is armed any more.
+    pub fn disarm(&mut self)
+        ensures { Disarms (⟦<ModelDisk as Disk>⟧.view self.old) (⟦<ModelDisk as Disk>⟧.view self.new) }
+    {
+        self.disk.disarm();
     }
 
     /// The device calls made so far.

@@ -1,4 +1,4 @@
-use Rattle.std.proofs.Common.{arith, inl, inr, ⊎_elim, ap}
+use Rattle.std.proofs.Common.{arith, inr, ap}
 use Rattle.cg_disk.specs.Armed.{strike_of}
 use Rattle.cg_disk.proofs.Strikes.{failure_hit}
 use Rattle.cg_disk.proofs.model_disk.ModelDisk.count.Goals as goal
@@ -13,7 +13,7 @@ returns-in-Failure-eq0 c =
         writes_a = s.writes_a;
         writes_b = s.writes_b;
         begun = s.begun;
-        past = ⊎_elim (λ m. inl (record { point = m.point; more = m.more; call = m.call; a = m.a; b = m.b })) (λ n. inr (record { a = n.a; b = n.b; past = n.past })) s.past;
+        past = record { point = s.past.point; more = s.past.more; call = s.past.call; a = s.past.a; b = s.past.b };
       };
       calls = omega (arith, c.settle.ensures.calls);
       faults = omega (arith, c.settle.ensures.faults);
