@@ -59,6 +59,8 @@ ff -> not UTF-8
 'dirty 1 keys' -> missing part
 'order' -> missing part
 'recover' -> missing part
+'recover 3 7' -> missing part
+'downgrade' -> missing part
 'show' -> missing part
 'receive 1' -> missing part
 'deliver 1' -> missing part
@@ -84,6 +86,8 @@ ff -> not UTF-8
 'request 1 del "k" ? get "k" "k"' -> extra part
 'weak 1 count count' -> extra part
 'stop 1 0 - -' -> extra part
+'recover 3 7 - -' -> extra part
+'downgrade 1 2' -> extra part
 'join 1 2 3' -> extra part
 'transfer 1 2 3 4' -> extra part
 # no numbers
@@ -106,6 +110,11 @@ ff -> not UTF-8
 'rounds 1000001' -> bad number
 'stop 1 1000001 -' -> bad number
 'stop 1 -1 -' -> bad number
+'recover 3 0 -' -> bad number
+'recover 3 1000001 -' -> bad number
+'recover 3 x' -> bad number
+'recover 33 x' -> bad number
+'downgrade 33' -> bad number
 'fail 1 0' -> bad number
 'fail 1 ?' -> bad number
 'leave 1 2*3' -> bad number
@@ -174,6 +183,8 @@ first 'start 2 1*1' -> bad number
 'stop 1 0 -0' -> bad text
 'stop 1 0 0x00' -> bad text
 'stop 1 0 0:' -> bad text
+'recover 3 7 0' -> bad text
+'recover 3 7 ;' -> bad text
 # no commands
 'request 1 ;' -> bad command
 'request 1 "put"' -> bad command
@@ -209,6 +220,7 @@ first 'start 1*3 1' -> bad list
 'request 1 put x' -> bad text
 'request 1 del "k" ; del' -> missing part
 'stop 1 x y' -> bad number
+'recover 3 x y' -> bad number
 'join 1 2* 3' -> bad number
 'transfer 1 x' -> bad number"#;
 
@@ -219,6 +231,9 @@ const LINES: &str = r#"# events
 'merge 7' -> itself
 'order 1' -> itself
 'recover 32' -> itself
+'recover 3 7 -' -> itself
+'recover 3 1000000 00ff' -> itself
+'downgrade 3' -> itself
 'show 10' -> itself
 'show order' -> itself
 'gather' -> itself
@@ -282,7 +297,9 @@ long 1025 x request 1 put "k" "*" -> bad text
 long 1024 x request 1 need "k" "*" ? count -> itself
 long 1025 x request 1 need "k" "*" ? count -> bad text
 long 4096 0f stop 1 0 * -> itself
-long 4097 0f stop 1 0 * -> bad text"#;
+long 4097 0f stop 1 0 * -> bad text
+long 4096 0f recover 1 1 * -> itself
+long 4097 0f recover 1 1 * -> bad text"#;
 
 const PLACES: &str = "next '# first' -> nothing
 next 'gather' -> misplaced

@@ -16,7 +16,7 @@ use Rattle.cg_schedule.specs.Part.{number_part, id_part, count_part, fill_part}
 use Rattle.cg_schedule.specs.Command.{query_reading}
 use Rattle.cg_schedule.specs.Own.{some_read, after_word, tokens_reading}
 use Rattle.cg_schedule.specs.Limits.{IsEvent}
-use Rattle.cg_schedule.specs.Line.{word_text, event_word, leave_reading, transfer_reading, stop_reading as schedule_stop, recover_reading as schedule_recover, weak_reading as schedule_weak, event_reading as schedule_reading}
+use Rattle.cg_schedule.specs.Line.{word_text, event_word, leave_reading, transfer_reading, stop_reading as schedule_stop, order_reading as schedule_order, weak_reading as schedule_weak, event_reading as schedule_reading}
 use Rattle.cg_schedule.specs.Print.{fill_text, line_of as schedule_line}
 use Rattle.cg_follow.specs.declared.event.FollowEvent.{FollowEvent}
 use Rattle.cg_follow.specs.declared.event.FollowEvent.TheVariants as event
@@ -40,7 +40,7 @@ abbrev twin : FollowEvent → Event
 twin (event.Follower f p) = schedule.Leave f p
 twin (event.Feed p f count) = schedule.Transfer p f count
 twin (event.Stop f call fill) = schedule.Stop f call fill
-twin (event.Recover f) = schedule.Recover f
+twin (event.Recover f) = schedule.Order f
 twin (event.Weak f query) = schedule.Weak f query
 
 abbrev word_in : FollowEvent → FollowWord
@@ -113,7 +113,7 @@ back (schedule.Leave f p) = event.Follower f p
 back (schedule.Transfer p f count) = event.Feed p f count
 back (schedule.Stop f call fill) = event.Stop f call fill
 back (schedule.Weak f query) = event.Weak f query
-back (schedule.Recover f) = event.Recover f
+back (schedule.Order f) = event.Recover f
 back other = event.Recover 0
 
 -- ---- parts are read alike
@@ -156,7 +156,7 @@ abbrev IsTwin : FollowWord → List (List ℕ) → FollowEvent → Type 0
 IsTwin w ts e = (word_in e ≡ w) × (whole (schedule_reading (event_word (twin e))) ts ≡ Ok (twin e))
 
 found : (w : FollowWord) (ts : List (List ℕ)) (e : FollowEvent) → whole (event_reading w) ts ≡ Ok e → IsTwin w ts e
-unfolding event_reading make_reading feed_reading stop_reading recover_reading weak_reading schedule_reading leave_reading transfer_reading schedule_stop schedule_recover schedule_weak
+unfolding event_reading make_reading feed_reading stop_reading recover_reading weak_reading schedule_reading leave_reading transfer_reading schedule_stop schedule_order schedule_weak
 found Follower ts e is =
     let g = two_found id_part (λ f p. event.Follower f p) (λ f p. schedule.Leave f p) e (id_part ts) is in
     subst (IsTwin Follower ts) g.2 (refl, g.3)
@@ -169,7 +169,7 @@ found Fstop ts e is =
     (λ f n b. schedule.Stop f n b) e (id_part ts) is in
     subst (IsTwin Fstop ts) g.3 (refl, g.4)
 found Frecover ts e is =
-    let g = one_found (λ f. event.Recover f) (λ f. schedule.Recover f) e (id_part ts) is in
+    let g = one_found (λ f. event.Recover f) (λ f. schedule.Order f) e (id_part ts) is in
     subst (IsTwin Frecover ts) g.1 (refl, g.2)
 found Fweak ts e is =
     let g = two_found query_reading (λ f q. event.Weak f q) (λ f q. schedule.Weak f q) e (id_part ts) is in
@@ -177,7 +177,7 @@ found Fweak ts e is =
 
 again : (e : FollowEvent) (ts : List (List ℕ)) → whole (schedule_reading (event_word (twin e))) ts ≡ Ok (twin e) →
     whole (event_reading (word_in e)) ts ≡ Ok e
-unfolding event_reading make_reading feed_reading stop_reading recover_reading weak_reading schedule_reading leave_reading transfer_reading schedule_stop schedule_recover schedule_weak
+unfolding event_reading make_reading feed_reading stop_reading recover_reading weak_reading schedule_reading leave_reading transfer_reading schedule_stop schedule_order schedule_weak
 again (event.Follower f p) ts is =
     let g = two_found id_part (λ f p. schedule.Leave f p) (λ f p. event.Follower f p) (schedule.Leave f p)
     (id_part ts) is in
@@ -191,7 +191,7 @@ again (event.Stop f call fill) ts is =
     (schedule.Stop f call fill) (id_part ts) is in
     g.4 ∙ ap (λ e. given (back e)) g.3
 again (event.Recover f) ts is =
-    let g = one_found (λ f. schedule.Recover f) (λ f. event.Recover f) (schedule.Recover f) (id_part ts) is in
+    let g = one_found (λ f. schedule.Order f) (λ f. event.Recover f) (schedule.Order f) (id_part ts) is in
     g.2 ∙ ap (λ e. given (back e)) g.1
 again (event.Weak f query) ts is =
     let g = two_found query_reading (λ f q. schedule.Weak f q) (λ f q. event.Weak f q) (schedule.Weak f query)

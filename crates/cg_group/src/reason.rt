@@ -55,6 +55,9 @@ pub enum Reason {
     /// The replica is regular in a configuration.
     #[error("replica {0} is regular in a configuration")]
     StillRegular(ReplicaId),
+    /// The disk of the replica stands for a state with a weight above 1.
+    #[error("the disk of replica {0} has a weight above 1")]
+    Weighted(ReplicaId),
     /// The replica has discarded actions that the follower hasn't taken: so many were discarded.
     #[error("the replica has discarded {0} actions, and the follower has taken fewer")]
     Discarded(u64),
@@ -103,6 +106,7 @@ impl Reason {
             Reason::HasLeft(_) => 14,
             Reason::EarlierMissing(_) => 15,
             Reason::StillRegular(_) => 16,
+            Reason::Weighted(_) => 17,
             Reason::Discarded(_) => 18,
             Reason::WouldGoBack(_) => 19,
             Reason::UnknownFollower(_) => 20,
@@ -130,6 +134,7 @@ impl Reason {
             | Reason::JoinNotGreen(id)
             | Reason::HasLeft(id)
             | Reason::StillRegular(id)
+            | Reason::Weighted(id)
             | Reason::NotCreating(id) => Some(u64::from(id.get())),
             Reason::UnknownFollower(n)
             | Reason::FollowerDown(n)

@@ -10,14 +10,14 @@ use Rattle.cg_schedule.specs.declared.fault.LineFault.{LineFault}
 use Rattle.cg_schedule.specs.declared.event.Event.{Event}
 use Rattle.cg_schedule.specs.declared.event.Event.TheVariants as event
 use Rattle.cg_schedule.specs.declared.word.Word.{Word}
-use Rattle.cg_schedule.specs.declared.word.Word.TheVariants.{Start, Split, Merge, Request, Weak, Dirty, Order, Recover, Show, Gather, End, Receive, Deliver, Rounds, Stop, Fail, Join, Leave, Transfer}
+use Rattle.cg_schedule.specs.declared.word.Word.TheVariants.{Start, Split, Merge, Request, Weak, Dirty, Order, Recover, Downgrade, Show, Gather, End, Receive, Deliver, Rounds, Stop, Fail, Join, Leave, Transfer}
 use Rattle.cg_schedule.specs.Reading.{Reading, ◌>>=◌, done, lifted, ended, whole}
 use Rattle.cg_schedule.specs.Part.{number, weighted, fill, number_part, id_part, count_part, weighted_part, fill_part}
 use Rattle.cg_schedule.specs.Command.{Update, query_reading, update_reading}
-use Rattle.cg_schedule.specs.Line.{event_word, ids, weights, start_reading, split_reading, merge_reading, request_reading, weak_reading, dirty_reading, order_reading, recover_reading, shown, show_reading, receive_reading, deliver_reading, rounds_reading, stop_reading, fail_reading, join_reading, leave_reading, transfer_reading, event_reading}
+use Rattle.cg_schedule.specs.Line.{event_word, ids, weights, start_reading, split_reading, merge_reading, request_reading, weak_reading, dirty_reading, order_reading, recover_stopped_reading, recovery_of, recover_reading, downgrade_reading, shown, show_reading, receive_reading, deliver_reading, rounds_reading, stop_reading, fail_reading, join_reading, leave_reading, transfer_reading, event_reading}
 use Rattle.cg_schedule.specs.Print.{fill_text}
 use Rattle.cg_schedule.specs.Limits.{IsWithin, IsCount, IsMember, IsFill, IsQuery, IsUpdate, IsEvent}
-use Rattle.cg_schedule.proofs.PartLaws.{Anything, Nothing, IsPart, Makes, given, lifted-ok, ended-ok, part-token, made, bound, whole-again, whole-found}
+use Rattle.cg_schedule.proofs.PartLaws.{Anything, Nothing, IsPart, Makes, given, go_on-ok, lifted-ok, ended-ok, part-token, made, bound, whole-again, whole-found}
 use Rattle.cg_schedule.proofs.TokenParts.{TextFacts, same_text-true, number_token}
 use Rattle.cg_schedule.proofs.MemberParts.{weighted_token}
 use Rattle.cg_schedule.proofs.FillParts.{fill_token}
@@ -73,6 +73,8 @@ event_parts (event.Weak p query) = decimal p ∷ query_tokens query
 event_parts (event.Dirty p query) = decimal p ∷ query_tokens query
 event_parts (event.Order p) = decimal p ∷ []
 event_parts (event.Recover p) = decimal p ∷ []
+event_parts (event.RecoverStopped p call fill) = decimal p ∷ decimal call ∷ fill_text fill ∷ []
+event_parts (event.Downgrade p) = decimal p ∷ []
 event_parts (event.Show p) = decimal p ∷ []
 event_parts event.ShowOrder = codes "order" ∷ []
 event_parts event.Gather = []
@@ -114,9 +116,9 @@ order_makes : TextFacts → Makes Anything (IsWithin 1 32) (λ p. decimal p ∷ 
 unfolding order_reading
 order_makes facts = made Anything (IsWithin 1 32) (λ p. decimal p ∷ []) (λ p. event.Order p) id_part (id_is facts)
 
-recover_makes : TextFacts → Makes Anything (IsWithin 1 32) (λ p. decimal p ∷ []) (λ p. event.Recover p) recover_reading
-unfolding recover_reading
-recover_makes facts = made Anything (IsWithin 1 32) (λ p. decimal p ∷ []) (λ p. event.Recover p) id_part (id_is facts)
+downgrade_makes : TextFacts → Makes Anything (IsWithin 1 32) (λ p. decimal p ∷ []) (λ p. event.Downgrade p) downgrade_reading
+unfolding downgrade_reading
+downgrade_makes facts = made Anything (IsWithin 1 32) (λ p. decimal p ∷ []) (λ p. event.Downgrade p) id_part (id_is facts)
 
 abbrev Numbered : (ℕ → Type 0) → (ℕ → ℕ → Event) → Reading Event → Type 0
 Numbered Has into reading = Makes Anything (λ (x : ℕ × ℕ). IsWithin 1 32 x.0 × Has x.1) (λ (x : ℕ × ℕ). (decimal x.0 ∷ []) ++ (decimal x.1 ∷ [])) (λ (x : ℕ × ℕ). into x.0 x.1) reading
@@ -206,6 +208,47 @@ show_found facts (token ∷ left) e f = by_word (same_text token (codes "order")
   by_word true same g = order_found token left e (same_text-true token (codes "order") same) g
   by_word false same g = replica_found facts token left e g
 
+-- ---- recover
+
+-- what stands behind the replica of a recovery that is stopped
+stopped_makes : TextFacts → (p : ℕ) → Makes Anything (λ (x : ℕ × List ℕ). IsCount x.0 × IsFill x.1) (λ (x : ℕ × List ℕ). (decimal x.0 ∷ []) ++ (fill_text x.1 ∷ [])) (λ (x : ℕ × List ℕ). event.RecoverStopped p x.0 x.1) (recover_stopped_reading p)
+unfolding recover_stopped_reading
+stopped_makes facts p =
+    bound Anything IsCount (λ n. decimal n ∷ []) count_part IsFill (λ b. fill_text b ∷ []) (λ n b. event.RecoverStopped p n b) (λ n. fill_part >>= λ b. done (event.RecoverStopped p n b)) (count_is facts)
+    (λ n. made Anything IsFill (λ b. fill_text b ∷ []) (λ b. event.RecoverStopped p n b) fill_part fill_is)
+
+recover_again : TextFacts → (p : ℕ) → IsWithin 1 32 p → whole recover_reading (decimal p ∷ []) ≡ Ok (event.Recover p)
+unfolding recover_reading
+recover_again facts p has = rw ((id_is facts).again p [] tt has) refl
+
+stopped_again : TextFacts → (p call : ℕ) (fill : List ℕ) → IsWithin 1 32 p → IsCount call → IsFill fill → whole recover_reading (decimal p ∷ decimal call ∷ fill_text fill ∷ []) ≡ Ok (event.RecoverStopped p call fill)
+unfolding recover_reading
+stopped_again facts p call fill has counts fills =
+    let rest = whole-again Anything _ _ _ _ (stopped_makes facts p) (call, fill) tt (counts, fills) in
+    rw ((id_is facts).again p (decimal call ∷ fill_text fill ∷ []) tt has) rest
+
+stopped_is : (p : ℕ) (left : List (List ℕ)) (e : Event) (call : ℕ) (fill : List ℕ) → IsWithin 1 32 p → IsCount call × IsFill fill → left ≡ decimal call ∷ fill_text fill ∷ [] → event.RecoverStopped p call fill ≡ e → EventFound Recover (decimal p ∷ left) e
+unfolding event_parts
+stopped_is p left e call fill has parts is same = rw (is, ← same) ((has, parts), refl, refl)
+
+-- a recovery, from what is left behind its replica
+recovery_found : TextFacts → (p : ℕ) → IsWithin 1 32 p → (left : List (List ℕ)) (e : Event) → recovery_of p left ≡ Ok (e, []) → EventFound Recover (decimal p ∷ left) e
+unfolding event_parts
+recovery_found facts p has [] e f =
+    let g = given (event.Recover p) e [] [] f in
+    rw (← g.0) (has, refl, refl)
+recovery_found facts p has (token ∷ left) e f =
+    let g = (stopped_makes facts p).found e (token ∷ left) [] f in
+    stopped_is p (token ∷ left) e g.from.0 g.from.1 has g.has g.tokens g.is
+
+recover_found : TextFacts → (ts : List (List ℕ)) (e : Event) → whole recover_reading ts ≡ Ok e → EventFound Recover ts e
+unfolding recover_reading
+recover_found facts ts e f =
+    let step = go_on-ok (id_part ts) recovery_of e [] (ended-ok (recover_reading ts) e f) in
+    let g = (id_is facts).found step.0 ts step.1 step.2 in
+    let found = recovery_found facts g.from g.has step.1 e (rw g.is step.3) in
+    rw g.tokens found
+
 -- ---- every event
 
 -- an event that its parts make
@@ -230,7 +273,8 @@ event_found facts Request ts e f = concluded Nothing _ _ _ _ (request_makes fact
 event_found facts Weak ts e f = concluded Anything _ _ _ _ (weak_makes facts) Weak (λ x has. (has, refl, refl)) ts e f
 event_found facts Dirty ts e f = concluded Anything _ _ _ _ (dirty_makes facts) Dirty (λ x has. (has, refl, refl)) ts e f
 event_found facts Order ts e f = concluded Anything _ _ _ _ (order_makes facts) Order (λ x has. (has, refl, refl)) ts e f
-event_found facts Recover ts e f = concluded Anything _ _ _ _ (recover_makes facts) Recover (λ x has. (has, refl, refl)) ts e f
+event_found facts Recover ts e f = recover_found facts ts e f
+event_found facts Downgrade ts e f = concluded Anything _ _ _ _ (downgrade_makes facts) Downgrade (λ x has. (has, refl, refl)) ts e f
 event_found facts Show ts e f = show_found facts ts e f
 event_found facts Gather ts e f = alone_found Gather event.Gather ts e (tt, refl, refl) f
 event_found facts End ts e f = alone_found End event.End ts e (tt, refl, refl) f
@@ -252,7 +296,9 @@ event_again facts (event.Request p cmds query) has = whole-again Nothing _ _ _ _
 event_again facts (event.Weak p query) has = whole-again Anything _ _ _ _ (weak_makes facts) (p, query) tt has
 event_again facts (event.Dirty p query) has = whole-again Anything _ _ _ _ (dirty_makes facts) (p, query) tt has
 event_again facts (event.Order p) has = whole-again Anything _ _ _ _ (order_makes facts) p tt has
-event_again facts (event.Recover p) has = whole-again Anything _ _ _ _ (recover_makes facts) p tt has
+event_again facts (event.Recover p) has = recover_again facts p has
+event_again facts (event.RecoverStopped p call fill) has = stopped_again facts p call fill has.0 has.1.0 has.1.1
+event_again facts (event.Downgrade p) has = whole-again Anything _ _ _ _ (downgrade_makes facts) p tt has
 event_again facts (event.Show p) has = show_again facts p has
 event_again facts event.ShowOrder has = show_order_again
 event_again facts event.Gather has = refl

@@ -11,7 +11,7 @@ use Rattle.cg_schedule.specs.declared.fault.LineFault.{LineFault}
 use Rattle.cg_schedule.specs.declared.event.Event.{Event}
 use Rattle.cg_schedule.specs.declared.event.Event.TheVariants as event
 use Rattle.cg_schedule.specs.declared.word.Word.{Word}
-use Rattle.cg_schedule.specs.declared.word.Word.TheVariants.{Start, Split, Merge, Request, Weak, Dirty, Order, Recover, Show, Gather, End, Receive, Deliver, Rounds, Stop, Fail, Join, Leave, Transfer}
+use Rattle.cg_schedule.specs.declared.word.Word.TheVariants.{Start, Split, Merge, Request, Weak, Dirty, Order, Recover, Downgrade, Show, Gather, End, Receive, Deliver, Rounds, Stop, Fail, Join, Leave, Transfer}
 use Rattle.cg_schedule.specs.declared.reader_state.ReaderState.{ReaderState}
 use Rattle.cg_schedule.specs.Fault.{not_utf8, misplaced}
 use Rattle.cg_schedule.specs.Reading.{whole}
@@ -56,6 +56,9 @@ printed facts texts (event.Dirty p query) has =
     line_gap facts _ _ _ _ (one_number facts texts (codes "dirty") p (line_word facts (codes "dirty") refl refl) (omega arith)) (line_query facts query has.1)
 printed facts texts (event.Order p) has = one_number facts texts (codes "order") p (line_word facts (codes "order") refl refl) (omega (arith, has.1))
 printed facts texts (event.Recover p) has = one_number facts texts (codes "recover") p (line_word facts (codes "recover") refl refl) (omega (arith, has.1))
+printed facts texts (event.RecoverStopped p call fill) has =
+    line_gap facts _ (fill_text fill) _ (fill_text fill ∷ []) (two_numbers facts texts (codes "recover") p call (line_word facts (codes "recover") refl refl) (omega (arith, has.0.1)) (omega (arith, has.1.0.1))) (line_fill facts fill has.1.1.0)
+printed facts texts (event.Downgrade p) has = one_number facts texts (codes "downgrade") p (line_word facts (codes "downgrade") refl refl) (omega (arith, has.1))
 printed facts texts (event.Show p) has = one_number facts texts (codes "show") p (line_word facts (codes "show") refl refl) (omega (arith, has.1))
 printed facts texts event.ShowOrder has = line_gap facts (codes "show") (codes "order") (codes "show" ∷ []) (codes "order" ∷ []) (line_word facts (codes "show") refl refl) (line_word facts (codes "order") refl refl)
 printed facts texts event.Gather has = line_word facts (codes "gather") refl refl
@@ -82,6 +85,8 @@ printed_stands (event.Weak p query) = refl
 printed_stands (event.Dirty p query) = refl
 printed_stands (event.Order p) = refl
 printed_stands (event.Recover p) = refl
+printed_stands (event.RecoverStopped p call fill) = refl
+printed_stands (event.Downgrade p) = refl
 printed_stands (event.Show p) = refl
 printed_stands event.ShowOrder = refl
 printed_stands event.Gather = refl
@@ -128,6 +133,7 @@ word_of-again Weak = refl
 word_of-again Dirty = refl
 word_of-again Order = refl
 word_of-again Recover = refl
+word_of-again Downgrade = refl
 word_of-again Show = refl
 word_of-again Gather = refl
 word_of-again End = refl

@@ -10,7 +10,7 @@ use Rattle.cg_schedule.specs.declared.fault.LineFault.{LineFault}
 use Rattle.cg_schedule.specs.declared.event.Event.{Event}
 use Rattle.cg_schedule.specs.declared.event.Event.TheVariants as event
 use Rattle.cg_schedule.specs.declared.word.Word.{Word}
-use Rattle.cg_schedule.specs.declared.word.Word.TheVariants.{Start, Split, Merge, Request, Weak, Dirty, Order, Recover, Show, Gather, End, Receive, Deliver, Rounds, Stop, Fail, Join, Leave, Transfer}
+use Rattle.cg_schedule.specs.declared.word.Word.TheVariants.{Start, Split, Merge, Request, Weak, Dirty, Order, Recover, Downgrade, Show, Gather, End, Receive, Deliver, Rounds, Stop, Fail, Join, Leave, Transfer}
 use Rattle.cg_schedule.specs.declared.reader_state.ReaderState.{ReaderState}
 use Rattle.cg_schedule.specs.Fault.{not_utf8, unknown_word, bad_list, misplaced}
 use Rattle.cg_schedule.specs.Reading.{Reading, ◌>>=◌, done, lifted, token_part, whole}
@@ -28,6 +28,7 @@ word_text Weak = codes "weak"
 word_text Dirty = codes "dirty"
 word_text Order = codes "order"
 word_text Recover = codes "recover"
+word_text Downgrade = codes "downgrade"
 word_text Show = codes "show"
 word_text Gather = codes "gather"
 word_text End = codes "end"
@@ -41,8 +42,8 @@ word_text Leave = codes "leave"
 word_text Transfer = codes "transfer"
 
 abbrev pub every_word : List Word
-every_word = Start ∷ Split ∷ Merge ∷ Request ∷ Weak ∷ Dirty ∷ Order ∷ Recover ∷ Show ∷ Gather ∷ End ∷ Receive ∷ Deliver
-    ∷ Rounds ∷ Stop ∷ Fail ∷ Join ∷ Leave ∷ Transfer ∷ []
+every_word = Start ∷ Split ∷ Merge ∷ Request ∷ Weak ∷ Dirty ∷ Order ∷ Recover ∷ Downgrade ∷ Show ∷ Gather ∷ End ∷ Receive
+    ∷ Deliver ∷ Rounds ∷ Stop ∷ Fail ∷ Join ∷ Leave ∷ Transfer ∷ []
 
 -- the event word that the text is
 unfoldable pub word_of : List ℕ → Option Word
@@ -62,6 +63,8 @@ event_word (event.Weak p query) = Weak
 event_word (event.Dirty p query) = Dirty
 event_word (event.Order p) = Order
 event_word (event.Recover p) = Recover
+event_word (event.RecoverStopped p call fill) = Recover
+event_word (event.Downgrade p) = Downgrade
 event_word (event.Show p) = Show
 event_word event.ShowOrder = Show
 event_word event.Gather = Gather
@@ -157,8 +160,22 @@ dirty_reading = do
 unfoldable pub order_reading : Reading Event
 order_reading = id_part >>= λ p. done (event.Order p)
 
+-- a recovery, and where more stands, the call in which it is to be stopped and the bytes that are left
+unfoldable pub recover_stopped_reading : ℕ → Reading Event
+recover_stopped_reading p = do
+  call ← count_part
+  fill ← fill_part
+  done (event.RecoverStopped p call fill)
+
+abbrev pub recovery_of : ℕ → Reading Event
+recovery_of p [] = Ok (event.Recover p, [])
+recovery_of p (token ∷ left) = recover_stopped_reading p (token ∷ left)
+
 unfoldable pub recover_reading : Reading Event
-recover_reading = id_part >>= λ p. done (event.Recover p)
+recover_reading = id_part >>= recovery_of
+
+unfoldable pub downgrade_reading : Reading Event
+downgrade_reading = id_part >>= λ p. done (event.Downgrade p)
 
 -- what is to be shown: the order, or a replica
 abbrev pub shown : Result ℕ LineFault → Result Event LineFault
@@ -226,6 +243,7 @@ event_reading Weak = weak_reading
 event_reading Dirty = dirty_reading
 event_reading Order = order_reading
 event_reading Recover = recover_reading
+event_reading Downgrade = downgrade_reading
 event_reading Show = show_reading
 event_reading Gather = done event.Gather
 event_reading End = done event.End

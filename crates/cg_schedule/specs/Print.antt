@@ -5,7 +5,7 @@ use Rattle.cg_base.specs.declared.weighted.Weighted.{Weighted}
 use Rattle.cg_base.specs.Text.{weighted_text}
 use Rattle.cg_action.specs.Print.{query_text, update_text}
 use Rattle.cg_schedule.specs.declared.event.Event.{Event}
-use Rattle.cg_schedule.specs.declared.event.Event.TheVariants.{Start, Split, Merge, Request, Weak, Dirty, Order, Recover, Show, ShowOrder, Gather, End, Receive, Deliver, Rounds, Stop, Fail, Join, Leave, Transfer}
+use Rattle.cg_schedule.specs.declared.event.Event.TheVariants.{Start, Split, Merge, Request, Weak, Dirty, Order, Recover, RecoverStopped, Downgrade, Show, ShowOrder, Gather, End, Receive, Deliver, Rounds, Stop, Fail, Join, Leave, Transfer}
 
 -- a part behind a blank
 abbrev pub id_behind : ℕ → List ℕ
@@ -37,6 +37,9 @@ line_of (Weak p query) = codes "weak " ++ decimal p ++ codes " " ++ query_text q
 line_of (Dirty p query) = codes "dirty " ++ decimal p ++ codes " " ++ query_text query
 line_of (Order p) = codes "order " ++ decimal p
 line_of (Recover p) = codes "recover " ++ decimal p
+line_of (RecoverStopped p call fill) =
+    codes "recover " ++ decimal p ++ codes " " ++ decimal call ++ codes " " ++ fill_text fill
+line_of (Downgrade p) = codes "downgrade " ++ decimal p
 line_of (Show p) = codes "show " ++ decimal p
 line_of ShowOrder = codes "show order"
 line_of Gather = codes "gather"

@@ -30,6 +30,15 @@ pub enum Event {
     Order(ReplicaId),
     /// The replica comes back from its disk.
     Recover(ReplicaId),
+    /// The replica comes back from its disk, unless it crashes in the device call of this number, counted from the next one
+    /// as 1. `fill` decides what is left of bytes that were not synced.
+    RecoverStopped {
+        p: ReplicaId,
+        call: u64,
+        fill: Bytes,
+    },
+    /// In place of the replica's disk there is one of the older format, which stands for the same state.
+    Downgrade(ReplicaId),
     /// The replica shows its green actions and its database.
     Show(ReplicaId),
     /// The global order is shown.
@@ -96,6 +105,12 @@ impl Drop for Event {
             Event::Dirty { p: _, query: _ } => {}
             Event::Order(_) => {}
             Event::Recover(_) => {}
+            Event::RecoverStopped {
+                p: _,
+                call: _,
+                fill: _,
+            } => {}
+            Event::Downgrade(_) => {}
             Event::Show(_) => {}
             Event::ShowOrder => {}
             Event::Gather => {}

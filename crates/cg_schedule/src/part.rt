@@ -31,6 +31,12 @@ pub(crate) fn identifier(token: &[u8]) -> Result<ReplicaId, LineFault>
     Ok(ReplicaId::known(n as u8))
 }
 
+pub(crate) fn count(token: &[u8]) -> Result<u64, LineFault>
+    ensures { result ≡ number 1 1000000 token.now }
+{
+    number(token, 1, 1_000_000)
+}
+
 #[tactic(auto, unfolding(crate::specs::Part::integer))]
 fn integer(token: &[u8]) -> Result<i64, LineFault>
     ensures { result ≡ integer token.now }
@@ -214,7 +220,7 @@ pub fn take_count(words: &mut Words) -> Result<u64, LineFault>
     ensures { Takes (λ n. n) count_part words.old words.new result }
 {
     let token = take_token(words)?;
-    number(token, 1, 1_000_000)
+    count(token)
 }
 
 #[tactic(auto, unfolding(crate::specs::Part::integer_part))]

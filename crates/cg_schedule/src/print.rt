@@ -27,6 +27,10 @@ impl Display for Event {
             Event::Dirty { p, query } => write!(f, "dirty {p} {query}"),
             Event::Order(p) => write!(f, "order {p}"),
             Event::Recover(p) => write!(f, "recover {p}"),
+            Event::RecoverStopped { p, call, fill } => {
+                write!(f, "recover {p} {call} {}", Fill(fill.as_slice()))
+            }
+            Event::Downgrade(p) => write!(f, "downgrade {p}"),
             Event::Show(p) => write!(f, "show {p}"),
             Event::ShowOrder => f.write_str("show order"),
             Event::Gather => f.write_str("gather"),

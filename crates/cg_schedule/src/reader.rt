@@ -1,17 +1,18 @@
 //! The reader of a schedule's lines.
 
-ghost use Rattle.std.specs.Prelude.{◌≡◌, MatchResult, []};
+ghost use Rattle.std.specs.Prelude.{◌≡◌, MatchResult, [], ◌∷◌};
 ghost use Rattle.std.specs.Str.{is_utf8};
 ghost use Rattle.cg_schedule.specs.Fault.{Gives};
 ghost use Rattle.cg_schedule.specs.Reading.{Takes, TakesWithMemory, whole};
-ghost use Rattle.cg_schedule.specs.Line.{ids, weights, start_reading, split_reading, merge_reading, request_reading, weak_reading, dirty_reading, order_reading, recover_reading, show_reading, receive_reading, deliver_reading, rounds_reading, stop_reading, fail_reading, join_reading, leave_reading, transfer_reading, event_reading};
+ghost use Rattle.cg_schedule.specs.Line.{ids, weights, start_reading, split_reading, merge_reading, request_reading, weak_reading, dirty_reading, order_reading, recover_reading, recover_stopped_reading, downgrade_reading, show_reading, receive_reading, deliver_reading, rounds_reading, stop_reading, fail_reading, join_reading, leave_reading, transfer_reading, event_reading};
 
 use crate::command::{take_query, take_update};
 use crate::part::{
-    identifier, take_count, take_fill, take_id, take_number, take_token, take_weighted, weighted,
+    count, identifier, take_count, take_fill, take_id, take_number, take_token, take_weighted,
+    weighted,
 };
 use crate::{Event, LineFault, ReaderState, SyntaxReason, Word};
-use cg_base::{IdSet, WeightSet};
+use cg_base::{IdSet, ReplicaId, WeightSet};
 use cg_text::{Words, is_passed_over};
 use std::alloc::Global;
 use std::marker::Model;
@@ -142,7 +143,8 @@ fn take_event(alloc: Global, words: &mut Words, word: Word) -> Result<Event, Lin
         Word::Weak => take_weak(alloc, words),
         Word::Dirty => take_dirty(alloc, words),
         Word::Order => take_order(words),
-        Word::Recover => take_recover(words),
+        Word::Recover => take_recover(alloc, words),
+        Word::Downgrade => take_downgrade(words),
         Word::Show => take_show(words),
         Word::Gather => Ok(Event::Gather),
         Word::End => Ok(Event::End),
@@ -253,11 +255,37 @@ fn take_order(words: &mut Words) -> Result<Event, LineFault>
 }
 
 #[tactic(auto, unfolding(crate::specs::Line::recover_reading))]
-fn take_recover(words: &mut Words) -> Result<Event, LineFault>
-    ensures { Takes (λ e. e) recover_reading words.old words.new result }
+fn take_recover(alloc: Global, words: &mut Words) -> Result<Event, LineFault>
+    ensures { TakesWithMemory (λ e. e) recover_reading words.old words.new result }
 {
     let p = take_id(words)?;
-    Ok(Event::Recover(p))
+    match words.next() {
+        None => Ok(Event::Recover(p)),
+        Some(token) => take_recover_stopped(alloc, words, p, token),
+    }
+}
+
+// a recovery that is to be stopped, from the token of its call on
+#[tactic(auto, unfolding(crate::specs::Line::recover_stopped_reading, crate::specs::Part::count_part))]
+fn take_recover_stopped(
+    alloc: Global,
+    words: &mut Words,
+    p: ReplicaId,
+    token: &[u8],
+) -> Result<Event, LineFault>
+    ensures { TakesWithMemory (λ e. e) (recover_stopped_reading p) (token.now ∷ words.old) words.new result }
+{
+    let call = count(token)?;
+    let fill = take_fill(alloc, words)?;
+    Ok(Event::RecoverStopped { p, call, fill })
+}
+
+#[tactic(auto, unfolding(crate::specs::Line::downgrade_reading))]
+fn take_downgrade(words: &mut Words) -> Result<Event, LineFault>
+    ensures { Takes (λ e. e) downgrade_reading words.old words.new result }
+{
+    let p = take_id(words)?;
+    Ok(Event::Downgrade(p))
 }
 
 #[tactic(auto, unfolding(crate::specs::Line::show_reading))]

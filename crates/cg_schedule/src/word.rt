@@ -9,6 +9,7 @@ pub enum Word {
     Dirty,
     Order,
     Recover,
+    Downgrade,
     Show,
     Gather,
     End,
@@ -22,7 +23,7 @@ pub enum Word {
     Transfer,
 }
 
-const EVERY_WORD: [Word; 19] = [
+const EVERY_WORD: [Word; 20] = [
     Word::Start,
     Word::Split,
     Word::Merge,
@@ -31,6 +32,7 @@ const EVERY_WORD: [Word; 19] = [
     Word::Dirty,
     Word::Order,
     Word::Recover,
+    Word::Downgrade,
     Word::Show,
     Word::Gather,
     Word::End,
@@ -61,6 +63,7 @@ impl Word {
             Word::Dirty => "dirty",
             Word::Order => "order",
             Word::Recover => "recover",
+            Word::Downgrade => "downgrade",
             Word::Show => "show",
             Word::Gather => "gather",
             Word::End => "end",
