@@ -1,5 +1,5 @@
 -- What an event leaves on its replica's disk, and what a crash inside of it does.
-use Rattle.std.specs.Prelude.{ℕ, suc, ◌-◌, ◌==◌, nat_lt, nat_le, Bool, false, ◌&&◌, ◌||◌, List, [], ◌∷◌, ◌++◌, Option, Some, None, if◌then◌else◌}
+use Rattle.std.specs.Prelude.{ℕ, suc, ◌-◌, ◌==◌, nat_lt, nat_le, Bool, true, false, ◌&&◌, ◌||◌, List, [], ◌∷◌, ◌++◌, Option, Some, None, if◌then◌else◌}
 use Rattle.cg_base.specs.declared.action_id.ActionId.{ActionId}
 use Rattle.cg_action.specs.declared.action.Action.{Action}
 use Rattle.cg_client.specs.Replica.{Held, Replica}
@@ -8,6 +8,7 @@ use Rattle.cg_disk_records.specs.Stored.{Stored, stored_of, whiten, recovery_tur
 use Rattle.cg_disk_records.specs.Change.{spelled_change, change_of}
 use Rattle.cg_disk_records.specs.Checkpoint.{spelled_checkpoint, size_with, empty_size, size_limit}
 use Rattle.cg_disk_records.specs.Commit.{commits}
+use Rattle.cg_disk_records.specs.Format.{Format, Older, Newer, all_newer}
 
 -- how a device call is to fail: once, or by a crash that leaves these bytes in the unsynced places
 pub data Fault : Type 0 where
@@ -19,13 +20,14 @@ pub record Strike : Type 0 where
   pub call : ℕ
   pub fault : Fault
 
--- a disk: what stands on it, the length of the side that is written next and its generation, and the strike that is armed;
+-- a disk: what stands on it, the length of the side in use and its generation, its format, and the strike that is armed;
 -- and the red marks of its running replica that stand in no record yet, in their order
 pub record Disk : Type 0 where
   pub content : Stored
   pub unwritten : List Action
   pub size : ℕ
   pub generation : ℕ
+  pub format : Format
   pub armed : Option Strike
 
 -- a disk that has this content in one checkpoint
@@ -35,6 +37,7 @@ new_disk s = record {
   unwritten = [];
   size = size_with empty_size (spelled_checkpoint 1 s);
   generation = 1;
+  format = all_newer;
   armed = None;
 }
 
@@ -126,9 +129,28 @@ unfoldable pub end_event : Disk → Held → Turn → EventEnd
 end_event disk old t = if commits old t then commit_under disk.armed disk t
     else Runs t.replica (record disk { unwritten = disk.unwritten ++ t.known })
 
+-- ---- how a replica comes up
+
+abbrev pub is_older : Format → Bool
+is_older Older = true
+is_older (Newer front) = false
+
+-- the disk with this format; where its content has moved, that stands in a checkpoint on the other side
+abbrev pub moved_to : Bool → Format → Disk → Disk
+moved_to moved format disk =
+    record disk {
+      size = if moved then size_with empty_size (spelled_checkpoint (suc disk.generation) disk.content) else disk.size;
+      generation = if moved then suc disk.generation else disk.generation;
+      format = format;
+    }
+
+-- the disk behind a recovery: it has gone over to the newer format
+abbrev pub migrated : Disk → Disk
+migrated disk = moved_to (is_older disk.format) all_newer disk
+
 -- the replica that comes up from a disk, and the disk with its red marks
 abbrev pub recovered : Disk → Replica
 recovered disk = (recovery_turn disk.content).replica
 
 abbrev pub disk_recovered : Disk → Disk
-disk_recovered disk = record disk { unwritten = (recovery_turn disk.content).known }
+disk_recovered disk = let d = migrated disk in record d { unwritten = (recovery_turn disk.content).known }

@@ -5,7 +5,7 @@ use Rattle.std.specs.Str.{bytes_eq}
 use Rattle.cg_disk.specs.Writes.{overwritten}
 use Rattle.cg_journal.specs.Found.{old_header}
 use Rattle.cg_journal.specs.Records.{header}
-use Rattle.cg_disk_records.specs.Crash.{Fault, FailOnce, StopWith, Strike, gate_stands}
+use Rattle.cg_disk_records.specs.Crash.{Fault, FailOnce, StopWith, Strike, Disk, gate_stands, moved_to}
 use Rattle.cg_disk_records.specs.Format.{Format, Older, Newer}
 
 -- ---- the calls of a recovery
@@ -42,3 +42,11 @@ abbrev pub format_left : Format → Strike → Format
 format_left Older strike =
     if has_moved Older strike then Newer (front_left 15 strike.call strike.fault old_header) else Older
 format_left (Newer front) strike = Newer (front_left 8 strike.call strike.fault front)
+
+-- the disk that a crash leaves in a device call of a recovery: its content is as it was
+unfoldable pub recovery_outcome : Disk → Strike → Disk
+recovery_outcome disk strike = moved_to (has_moved disk.format strike) (format_left disk.format strike) disk
+
+-- the strike reaches the recovery's calls
+abbrev pub is_reached : Disk → Strike → Bool
+is_reached disk strike = nat_le strike.call (recovery_calls disk.format)
