@@ -5,4 +5,5 @@ pub mod Engines
 pub mod Answers
 pub mod Ending
 pub mod Defined
+pub mod Standing
 pub mod FallLaws

@@ -384,10 +384,10 @@ impl<D: Disk> Engine<D> {
     }
 }
 
-/// The three calls of a disk in memory, passed on to it.
+/// The four calls of a disk in memory, passed on to it.
 impl Engine<ModelDisk> {
     ghost use Rattle.cg_disk.specs.State.{Fails, Stops};
-    ghost use Rattle.cg_disk.specs.Crashes.{Arms};
+    ghost use Rattle.cg_disk.specs.Crashes.{Arms, Disarms};
     ghost use Rattle.cg_engine.specs.Engines.{IsSame};
 
     /// Arms the nth next device call, n at least 1, to fail once. It takes no memory.
@@ -408,6 +408,15 @@ impl Engine<ModelDisk> {
         ensures rest { IsSame self.old self.new }
     {
         self.store.stop_at(n);
+    }
+
+    /// Nothing is armed any more. It takes no memory.
+    pub fn disarm(&mut self)
+        ensures disk { Disarms (⟦<ModelDisk as Disk>⟧.view self.old.store.disk)
+            (⟦<ModelDisk as Disk>⟧.view self.new.store.disk) }
+        ensures rest { IsSame self.old self.new }
+    {
+        self.store.disarm();
     }
 
     /// The device calls made so far. It takes no memory.

@@ -9,6 +9,9 @@
 //! or for the one behind it, and `Engine::recover` brings up what the disk stands for. What an event gives out is had
 //! behind its commit alone.
 //!
+//! What a disk in memory stands for is read from a copy of it (`Wreck::standing`), so that it stays as it is;
+//! `Wreck::downgraded` puts one of the older format in its place (`specs/Standing.antt`).
+//!
 //! A replica is started, crashes, and comes up again, as in `crates/cg_replica_tests/src/engine.rt`:
 //!
 //! ```rust

@@ -1,7 +1,14 @@
-ghost use Rattle.std.specs.Prelude.{◌≡◌, [], IfOk};
+ghost use Rattle.std.specs.Prelude.{◌≡◌, ◌≤◌, false, [], IfOk, IfSome};
+ghost use Rattle.cg_older.specs.Older.{has_weights};
+ghost use Rattle.cg_store.specs.Opening.{IsSound};
+ghost use Rattle.cg_engine.specs.Standing.{content_on, is_weighted, IsStateOf, IsLight, IsOldDisk, IsDowngraded};
 
 use cg_base::{IdList, NoMemory, ReplicaId, Row};
+use cg_client::Core;
 use cg_disk::{Disk, ModelDisk};
+use cg_disk_records::what_is_held_agrees;
+use cg_older::has_weights;
+use cg_store::{OpenErr, Store};
 use std::alloc::Global;
 use std::marker::Model;
 
@@ -69,9 +76,24 @@ impl<D: Disk> Wreck<D> {
     }
 }
 
-/// A crash of a disk in memory.
+// A new disk of the older format.
+fn old_disk(alloc: Global, core: &Core) -> Result<ModelDisk, NoMemory>
+    requires sound { IsSound core.now }
+    requires light { has_weights core.now ≡ false }
+    ensures { IfOk result (λ disk. IsOldDisk core.now.id core.now (⟦<ModelDisk as Disk>⟧.view disk)) }
+{
+    what_is_held_agrees();
+    match Store::create_old(ModelDisk::new(alloc), core) {
+        Ok(disk) => Ok(disk),
+        Err(_) => Err(NoMemory),
+    }
+}
+
+/// A disk in memory: a stop that is armed on it, a crash, what it stands for, and another one in its place.
 impl Wreck<ModelDisk> {
-    ghost use Rattle.cg_disk.specs.Crashes.{IsCrashed};
+    ghost use Rattle.cg_disk.specs.Crashes.{Arms, IsCrashed};
+    ghost use Rattle.cg_disk.specs.State.{Stops};
+    ghost use Rattle.cg_engine.specs.Answers.{IsStill};
 
     /// The disk after a crash, with these bytes in the places that weren't synced.
     pub fn image(self, fill: &[u8]) -> Result<Wreck<ModelDisk>, NoMemory>
@@ -82,5 +104,74 @@ impl Wreck<ModelDisk> {
         let Wreck { disk, id, last } = self;
         let disk = disk.image(fill)?;
         Ok(Wreck { disk, id, last })
+    }
+
+    /// Arms a stop inside the nth next device call, n at least 1. It takes no memory.
+    pub fn stop_at(&mut self, n: u64)
+        requires { 1 ≤ n }
+        ensures disk { Arms Stops n (⟦<ModelDisk as Disk>⟧.view self.old.disk) (⟦<ModelDisk as Disk>⟧.view self.new.disk) }
+        ensures rest { IsStill self.old self.new }
+    {
+        self.disk.stop_at(n);
+    }
+
+    /// The device calls that its disk has made. It takes no memory.
+    pub fn calls(&self) -> u64
+        ensures { result ≡ (⟦<ModelDisk as Disk>⟧.view self.now.disk).time }
+    {
+        self.disk.calls()
+    }
+
+    /// The same with another disk. It takes no memory.
+    pub fn with_disk(self, disk: ModelDisk) -> Wreck<ModelDisk>
+        ensures { result ≡ record { disk = disk; id = self.id; count = self.count; green = self.green } }
+    {
+        let Wreck { disk: _, id, last } = self;
+        Wreck { disk, id, last }
+    }
+
+    /// What the disk stands for as this replica's. A copy is opened, so that the disk stays as it is.
+    pub fn standing(&self) -> Result<Option<Core>, NoMemory>
+        ensures content { IfOk result (λ core. core ≡
+            content_on self.now.id (⟦<ModelDisk as Disk>⟧.view self.now.disk).reads) }
+        ensures state { IfOk result (λ core. IfSome core (IsStateOf self.now.id)) }
+    {
+        let copy = self.disk.copy()?;
+        match Store::open(self.disk.alloc(), copy, self.id) {
+            Ok((store, core)) => {
+                drop(store);
+                Ok(Some(core))
+            }
+            Err(OpenErr::NotAStore(disk)) => {
+                drop(disk);
+                Ok(None)
+            }
+            Err(_) => Err(NoMemory),
+        }
+    }
+
+    /// A weight above 1 stands in what the disk stands for.
+    pub fn is_weighted(&self) -> Result<bool, NoMemory>
+        ensures { IfOk result (λ b. b ≡ is_weighted self.now.id (⟦<ModelDisk as Disk>⟧.view self.now.disk).reads) }
+    {
+        let Some(core) = self.standing()? else {
+            return Ok(false);
+        };
+        let weighted = has_weights(&core);
+        drop(core);
+        Ok(weighted)
+    }
+
+    /// The same with a new disk of the older format, which stands for the same state. No weight above 1 may stand in it.
+    pub fn downgraded(self, alloc: Global) -> Result<Wreck<ModelDisk>, NoMemory>
+        requires { IsLight self.id (⟦<ModelDisk as Disk>⟧.view self.disk).reads }
+        ensures { IfOk result (λ w. IsDowngraded (⟦<ModelDisk as Disk>⟧.view) self w) }
+    {
+        let Some(core) = self.standing()? else {
+            unreachable!()
+        };
+        let disk = old_disk(alloc, &core)?;
+        drop(core);
+        Ok(self.with_disk(disk))
     }
 }

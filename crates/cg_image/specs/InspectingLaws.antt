@@ -5,7 +5,6 @@ use Rattle.cg_disk.specs.Sides.{Image}
 use Rattle.cg_disk_records.specs.Crash.{Disk, recovered}
 use Rattle.cg_disk_records.specs.Stored.{recovery_turn}
 use Rattle.cg_store.specs.Images.{IsImageOf}
-use Rattle.cg_store.specs.NewerLaws.{stands_newer}
 use Rattle.cg_image.specs.ImageLaws.{images_are_read}
 use Rattle.cg_image.specs.Images.{IsShort, image_text}
 use Rattle.cg_image.specs.Inspecting.{Holds, inspected, of_disk, of_image}
@@ -14,5 +13,5 @@ pub images_show : (p : ℕ) (disk : Disk) (image : Image) → IsId p → IsShort
     inspected (image_text p image) ≡ Holds (recovered disk)
 images_show p disk image id short is =
     let content = ap (λ (d : Disk). d.content) is.same in
-    ap of_image (images_are_read.again p image id short) ∙ ap of_disk (stands_newer p image is.standing is.stands)
+    ap of_image (images_are_read.again p image id short) ∙ ap of_disk is.stands
     ∙ ap (λ s. Holds (recovery_turn s).replica) (sym content)

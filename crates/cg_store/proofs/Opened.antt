@@ -233,6 +233,7 @@ opens_from view id old journal read (Ok up) is = record {
   stands = stood_before id old (view journal) (view up.0.disk) read is.standing is.stands;
   core_is = is.core_is;
   sound = is.sound;
+  owner = is.owner;
   id_is = is.id_is;
   unwritten = is.unwritten;
   reached = opening_reached id old (view journal) (view up.0.disk) read is.standing is.stands is.reached;

@@ -21,6 +21,7 @@ pub record IsUp {D : Type 0} (view : D →
   pub stands : StandsFor id old.reads standing
   pub core_is : core ≡ standing.on.content
   pub sound : IsSound standing.on.content
+  pub owner : standing.on.content.id ≡ id
   pub id_is : store.id ≡ id
   pub unwritten : store.unwritten ≡ []
   pub reached : IsReached id (settling_calls standing.format) (opened standing) old (view store.disk)

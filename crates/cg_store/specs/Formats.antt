@@ -2,6 +2,7 @@
 -- sides stands for the same as in `Stands`.
 use Rattle.std.specs.Prelude.{◌≡◌, ℕ, ◌==◌, List, [], ◌∷◌, fold, Option, Some, None, option_and_then, if◌then◌else◌}
 use Rattle.std.specs.Option.{option_map}
+use Rattle.cg_action.specs.declared.action.Action.{Action}
 use Rattle.cg_disk.specs.Sides.{Image, opposite}
 use Rattle.cg_journal.specs.Found.{Sides, sides, found_at, front_on}
 use Rattle.cg_journal.specs.declared.open.SideRecords.{SideRecords}
@@ -9,10 +10,11 @@ use Rattle.cg_disk_records.specs.declared.change.Change.{Change}
 use Rattle.cg_disk_records.specs.Stored.{Stored}
 use Rattle.cg_disk_records.specs.Parts.{change_in, Saved, checkpoint_in}
 use Rattle.cg_disk_records.specs.Following.{after_change}
+use Rattle.cg_disk_records.specs.Crash.{Disk}
 use Rattle.cg_older.specs.Bytes.{spelled_old_checkpoint}
 use Rattle.cg_older.specs.Older.{old_change_in, old_checkpoint_in}
 use Rattle.cg_disk_records.specs.Format.{Format, Older, Newer, all_newer}
-use Rattle.cg_store.specs.Stands.{Live, size_of, OnDisk, chosen, checkpointed, begun}
+use Rattle.cg_store.specs.Stands.{Live, size_of, OnDisk, chosen, checkpointed, begun, disk_of}
 
 -- the records of a version
 abbrev pub change_as : ℕ → List ℕ → Option Change
@@ -94,3 +96,7 @@ opened_as (Newer front) u = u
 
 abbrev pub opened : Standing → OnDisk
 opened s = opened_as s.format s.on
+
+-- a disk in the account of a replica's events, with the red marks that stand in no record
+abbrev pub disk_in : List Action → Standing → Disk
+disk_in unwritten s = let d = disk_of unwritten s.on in record d { format = s.format }

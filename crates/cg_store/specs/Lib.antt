@@ -20,3 +20,4 @@ pub mod EndingLaws
 pub mod StrikeLaws
 pub mod FormatLaws
 pub mod NewerLaws
+pub mod MigratedLaws

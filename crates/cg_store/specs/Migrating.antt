@@ -1,17 +1,19 @@
 -- What the calls leave by which a disk goes over to the newer format: at each moment every image stands for the same
 -- state.
-use Rattle.std.specs.Prelude.{◌≡◌, ◌⊎◌, ℕ, ◌+◌, ◌≤◌, List, Some, None, Result, Ok, Err, if◌then◌else◌}
+use Rattle.std.specs.Prelude.{◌≡◌, ◌⊎◌, ℕ, ◌+◌, ◌≤◌, List, [], Some, None, Result, Ok, Err, if◌then◌else◌}
 use Rattle.cg_disk.specs.Sides.{Image}
 use Rattle.cg_disk.specs.State.{DiskState, Blow, DiskStrike, left_by}
 use Rattle.cg_disk.specs.View.{DiskView, IsAtRest, LeavesOnly}
 use Rattle.cg_journal.specs.Strikes.{IsUnstruck, IsStruck}
 use Rattle.cg_journal.specs.Reads.{IsReadOnly}
 use Rattle.cg_journal.specs.Fresh.{IsLostWithin, IsRefusedWithin}
-use Rattle.cg_disk_records.specs.Recovery.{recovery_calls, has_moved, format_left}
+use Rattle.cg_disk_records.specs.Crash.{migrated}
+use Rattle.cg_disk_records.specs.Recovery.{recovery_calls, has_moved, format_left, recovery_outcome}
 use Rattle.cg_disk_records.specs.Stored.{Stored}
-use Rattle.cg_store.specs.Stands.{checkpointed}
+use Rattle.cg_older.specs.OldDisk.{old_disk}
+use Rattle.cg_store.specs.Stands.{checkpointed, disk_of}
 use Rattle.cg_store.specs.Defined.{strike_at}
-use Rattle.cg_store.specs.Formats.{Standing, StandsFor, StandsForState, standing_on_disk, created_old}
+use Rattle.cg_store.specs.Formats.{Standing, StandsFor, StandsForState, standing_on_disk, created_old, opened, disk_in}
 use Rattle.cg_journal.specs.declared.open.FormatErr.{FormatErr}
 use Rattle.cg_journal.specs.declared.open.FormatErr.TheVariants.{Lost as FormatLost, NoMemory as FormatNoMemory}
 use Rattle.cg_store.specs.declared.errors.CommitErr.{CommitErr}
@@ -57,6 +59,16 @@ pub record IsOpeningRefused (id : ℕ) (old new : DiskView) : Type 0 where
   pub calls : new.time ≤ old.time + 16
   pub unstruck : IsUnstruck old new
   pub moments : LeavesOnly old new (IsOpening id old)
+
+-- ---- the same in the account of a replica's events
+
+-- a disk of the older format is that of the definitions as it is made, as it goes over to the newer one, and as a strike in
+-- one of those calls leaves it
+pub record MigratesAsDefined : Type 0 where
+  pub made : (s : Stored) → disk_in [] (created_old s) ≡ old_disk s
+  pub opened_is : (s : Standing) → disk_of [] (opened s) ≡ migrated (disk_in [] s)
+  pub struck : (s : Standing) (call : ℕ) (blow : Blow) (fill : List ℕ) →
+      disk_in [] (standing_left s call blow fill) ≡ recovery_outcome (disk_in [] s) (strike_at call blow fill)
 
 -- ---- a new disk of the older format
 

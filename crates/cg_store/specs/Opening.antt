@@ -100,6 +100,7 @@ pub record IsOpened {D : Type 0} (view : D →
   pub stands : StandsFor id old.reads standing
   pub core_is : core ≡ standing.on.content
   pub sound : IsSound standing.on.content
+  pub owner : standing.on.content.id ≡ id
   pub id_is : store.id ≡ id
   pub unwritten : store.unwritten ≡ []
   pub reached : IsReached id (recovery_calls standing.format) (opened standing) old (view store.disk)

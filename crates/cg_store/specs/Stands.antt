@@ -13,6 +13,7 @@ use Rattle.cg_disk_records.specs.Checkpoint.{spelled_checkpoint, size_with, empt
 use Rattle.cg_disk_records.specs.Parts.{change_in, Saved, checkpoint_in}
 use Rattle.cg_disk_records.specs.Following.{after_change}
 use Rattle.cg_disk_records.specs.Crash.{Disk}
+use Rattle.cg_disk_records.specs.Format.{all_newer}
 
 -- the state that a record leads to, where it is a change that fits
 abbrev pub led_by : Stored → List ℕ → Option Stored
@@ -102,12 +103,14 @@ checkpointed u = moved u (spelled_checkpoint (suc u.generation) u.content)
 abbrev pub created : Stored → OnDisk
 created s = begun (spelled_checkpoint 1 s) s
 
--- a disk in the account of a replica's events, with the red marks that stand in no record
+-- a disk with the newer header on both sides in the account of a replica's events, with the red marks that stand in no
+-- record
 abbrev pub disk_of : List Action → OnDisk → Disk
 disk_of unwritten u = record {
   content = u.content;
   unwritten = unwritten;
   size = u.size;
   generation = u.generation;
+  format = all_newer;
   armed = None;
 }

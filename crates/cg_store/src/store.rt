@@ -581,10 +581,10 @@ impl<D: Disk> Store<D> {
     }
 }
 
-/// The three calls of a disk in memory, passed on to it.
+/// The four calls of a disk in memory, passed on to it.
 impl Store<ModelDisk> {
     ghost use Rattle.cg_disk.specs.State.{Fails, Stops};
-    ghost use Rattle.cg_disk.specs.Crashes.{Arms};
+    ghost use Rattle.cg_disk.specs.Crashes.{Arms, Disarms};
 
     /// Arms the nth next device call, n at least 1, to fail once.
     pub fn fail_at(&mut self, n: u64)
@@ -606,6 +606,15 @@ impl Store<ModelDisk> {
         ensures unwritten { self.new.unwritten ≡ self.old.unwritten }
     {
         self.journal.stop_at(n);
+    }
+
+    /// Nothing is armed any more.
+    pub fn disarm(&mut self)
+        ensures disk { Disarms (⟦<ModelDisk as Disk>⟧.view self.old.disk) (⟦<ModelDisk as Disk>⟧.view self.new.disk) }
+        ensures id { self.new.id ≡ self.old.id }
+        ensures unwritten { self.new.unwritten ≡ self.old.unwritten }
+    {
+        self.journal.disarm();
     }
 
     /// The device calls made so far.

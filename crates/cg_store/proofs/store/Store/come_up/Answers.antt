@@ -29,6 +29,7 @@ returns-in-Ok g c =
       stands = stands;
       core_is = refl;
       sound = h.sound;
+      owner = refl;
       id_is = sym c.requires.owner;
       unwritten = c.new.ensures;
       reached = is.reached;
