@@ -26,14 +26,14 @@ use Rattle.cg_disk_records.specs.Stored.{whiten}
 use Rattle.cg_model.specs.ReplicaStep.{Input, Deliveries, Asks as AsksOf, replica_step}
 use Rattle.cg_disk_records.specs.Crash.{Disk, FailOnce, StopWith, Strike, whitened, end_event, at_rest, new_disk, recovered, disk_recovered}
 use Rattle.cg_schedule.specs.declared.event.Event.{Event}
-use Rattle.cg_schedule.specs.declared.event.Event.TheVariants.{Start, Split, Merge, Request, Weak, Dirty, Order, Recover, Show, ShowOrder, Gather, End, Receive, Deliver, Rounds, Stop, Fail, Join, Leave, Transfer}
+use Rattle.cg_schedule.specs.declared.event.Event.TheVariants.{Start, Split, Merge, Request, Weak, Dirty, Order, Recover, RecoverStopped, Downgrade, Show, ShowOrder, Gather, End, Receive, Deliver, Rounds, Stop, Fail, Join, Leave, Transfer}
 use Rattle.cg_model.specs.World.{NodeState, Up, Down, Node, TransferState, World, no_world, running, has_begun, node_of, replica_of, bring_up}
 use Rattle.cg_model.specs.Admission.{first_refusal, takes_part, never_named, joiner_left, not_green}
 use Rattle.cg_model.specs.AdmissionCalls.{begun_already}
 use Rattle.cg_model.specs.Show.{ended}
 use Rattle.cg_model.specs.Run.{MayStand}
 use Rattle.cg_model.specs.Agreement.{may_move}
-use Rattle.cg_model.specs.Step.{quietly, hand_out, ask, name_also, begin_replica, arm_at, crash_at, recover_from, recover, joiner_replica, snapshot_for, without_snapshot, with_pieces, take_pieces, transfer, happens, world_step}
+use Rattle.cg_model.specs.Step.{quietly, hand_out, ask, name_also, begin_replica, arm_at, crash_at, recover_from, recover, joiner_replica, snapshot_for, without_snapshot, with_pieces, take_pieces, transfer, happens, world_step, downgrade}
 use Rattle.cg_model.specs.Chronicle.{Chronicle}
 use Rattle.cg_model.specs.Looks.{greens_of, stood_of, on_disk, disk_held}
 use Rattle.cg_model.specs.FactsReplica.{IsCore, IsModeData}
@@ -52,6 +52,7 @@ use Rattle.cg_agree_lemmas.specs.RestsBehind.{handed-ids, split-to}
 use Rattle.cg_agree_lemmas.specs.StepGreens.{step-follows, whitened-count}
 use Rattle.cg_agree_lemmas.specs.TurnWorlds.{life_at}
 use Rattle.cg_agree_lemmas.specs.WorldTurns.{IsBehind, hand-behind, from-same, handed-behind}
+use Rattle.cg_agree_lemmas.specs.DiskSwaps.{Swaps, downgrade-swaps, recover_under-cases}
 use Rattle.cg_client.specs.Joined.{piece_count}
 use Rattle.cg_group.specs.RefusalLaws.{refuse_none}
 
@@ -241,6 +242,16 @@ module _ (start : List Weighted) (w : World) (even : (p : ℕ) → NodeEven star
           (record { more = (let same : green_count r.held.queue ≤ green_count r.held.queue = omega arith in same); still = λ idle. refl; begun = λ some down. refl; up = λ idle x runs. inr (r, refl) })
       life (Down disk green) node now = stays w moved refl
 
+    swapped : (v : World) → Swaps w v p → Grows v moved
+    swapped v is = elim is [
+      | inl same ↦ stays v moved (ap (λ (x : World). x.nodes) same)
+      | inr other ↦
+          let new : NodeState = Down other.new other.green in
+          let count : green_count other.new.content.queue ≡ green_count other.old.content.queue = ap (λ (h : Held). green_count h.queue) other.content in
+          set-to v (Down other.old other.green) new other.node (λ q. ap (λ (x : World). node_of x q) other.world ∙ node_of-set w p new q)
+          (record { more = omega arith; still = λ idle. count; begun = λ some down. refl; up = λ idle x runs. absurd (let no_one : None ≡ Some x = runs in cc) })
+    ]
+
     recovered-grows : moved p ≡ true → Grows (recover w p).world moved
     recovered-grows moves = at (node_of w p) refl where
       life : (l : NodeState) → node_of w p ≡ Some (record { id = p; life = l }) → LifeEven start p l → Grows (recover_from w l).world moved
@@ -356,6 +367,10 @@ module _ (c : Chronicle) (w : World) (stands : StandsBeside c w) where
   happens-counts (Dirty p query) may admitted = stays c.start w even-at w (λ q. false) refl
   happens-counts (Order p) may admitted = stays c.start w even-at (happens w (Order p)).world (λ q. false) refl
   happens-counts (Recover p) may admitted = recovered-grows c.start w even-at p (λ q. p == q) (eq-eqb p p refl)
+  happens-counts (RecoverStopped p call fill) may admitted =
+      recover_under-cases w p (record { call = call; fault = StopWith fill }) (λ go. Grows c.start w even-at go.world (λ q. p == q))
+      (λ v. swapped c.start w even-at p (λ q. p == q) v) (recovered-grows c.start w even-at p (λ q. p == q) (eq-eqb p p refl))
+  happens-counts (Downgrade p) may admitted = swapped c.start w even-at p (λ q. false) (downgrade w p) (downgrade-swaps w p)
   happens-counts (Show p) may admitted = stays c.start w even-at w (λ q. false) refl
   happens-counts ShowOrder may admitted = stays c.start w even-at w (λ q. false) refl
   happens-counts Gather may admitted = stays c.start w even-at (happens w Gather).world (λ q. false) refl

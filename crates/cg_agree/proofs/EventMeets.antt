@@ -23,12 +23,12 @@ use Rattle.cg_disk_records.specs.Stored.{recovery_turn as recover_disk}
 use Rattle.cg_model.specs.ReplicaStep.{Input, Deliveries, Asks as AsksOf, replica_step}
 use Rattle.cg_disk_records.specs.Crash.{Strike, Disk, at_rest, new_disk, recovered, disk_recovered, end_event}
 use Rattle.cg_schedule.specs.declared.event.Event.{Event}
-use Rattle.cg_schedule.specs.declared.event.Event.TheVariants.{Start, Recover}
+use Rattle.cg_schedule.specs.declared.event.Event.TheVariants.{Start}
 use Rattle.cg_model.specs.World.{NodeState, Up, Down, Node, TransferState, World, no_world, running, node_of, replica_of, set_life, bring_up, bring_down}
 use Rattle.cg_model.specs.Show.{StepInProgress, unshown, news_of_recovery}
 use Rattle.cg_model.specs.Agreement.{is_recovery_of}
 use Rattle.cg_model.specs.Looks.{on_disk, disk_held}
-use Rattle.cg_model.specs.Step.{quietly, hand, hand_over, ask, name_also, begin_replica, arm_at, arm, crash_at, recover_from, recover, joiner_replica, without_snapshot, take_pieces}
+use Rattle.cg_model.specs.Step.{quietly, hand, hand_over, ask, name_also, begin_replica, arm_at, arm, crash_at, recover_from, recover, joiner_replica, without_snapshot, take_pieces, recover_under}
 use Rattle.cg_model.specs.FactsLists.{IsRising}
 use Rattle.cg_agree_lemmas.specs.ChronicleFacts.{node_of-set}
 use Rattle.cg_agree_lemmas.specs.HeldCommit.{recovered-id}
@@ -38,6 +38,7 @@ use Rattle.cg_agree_lemmas.specs.RepliesPlaced.{IsIn, times, reply_ids, plain, i
 use Rattle.cg_agree_lemmas.specs.OwedNames.{own_name}
 use Rattle.cg_agree_lemmas.specs.EventInputs.{IsHanded}
 use Rattle.cg_agree_lemmas.specs.EventSays.{Said, said-none, tell-said, made_ids, NodeOwes, Comes, hand-comes, handed-comes, made_by, replies_by}
+use Rattle.cg_agree_lemmas.specs.DiskSwaps.{IsSwapped, Swaps, recover_under-cases}
 use Rattle.cg_client.specs.Joined.{piece_count}
 
 -- nothing was made or answered before the event
@@ -244,6 +245,24 @@ arm-meets w e q strike p = at (node_of w q) refl where
   at None found = same-stays w e (quietly w) p refl refl refl
   at (Some s) found = life s s.life refl found
 
+pub swap-meets : (w v : World) (e : Event) (q p : ℕ) → Swaps w v q → Meets w e (quietly v) p
+swap-meets w v e q p is = elim is [
+  | inl same ↦ same-stays w e (quietly v) p (ap (λ (x : World). x.nodes) same) refl refl
+  | inr other ↦ quiet-stays w v e p (elim (cases_eq p q) [
+    | inr apart ↦ set-kept w v q (Down other.new other.green) p (nodes other) apart
+    | inl same ↦
+        let here = set-here w v q (Down other.new other.green) (nodes other) in
+        let off : replica_of w q ≡ None = ap (λ (o : Option Node). option_and_then (λ s. running s.life) o) other.node in
+        let was : disk_held w q ≡ Some other.old.content = ap (λ (o : Option Node). option_map (λ s. on_disk s.life) o) other.node in
+        record {
+          runs = ap (replica_of v) same ∙ here.0 ∙ sym off ∙ ap (replica_of w) (sym same);
+          disk = ap (disk_held v) same ∙ here.1 ∙ ap Some other.content ∙ sym was ∙ ap (disk_held w) (sym same);
+        }
+  ])
+] where
+  nodes : (other : IsSwapped w v q) (x : ℕ) → node_of v x ≡ node_of (set_life w q (Down other.new other.green)) x
+  nodes other x = ap (λ (u : World). node_of u x) other.world
+
 recovered-owed : (disk : Disk) → disk.content.owed ≡ [] → (recovered disk).held.owed ≡ []
 unfolding recover_disk
 recovered-owed disk none = owed-own (begin (record { held = disk.content; state = NonPrim false })) ∙ none
@@ -266,10 +285,10 @@ none-other (a ∷ reds) m t p i apart = elim (cases_Bool ((a.id.creator == m) &&
 unshown-other : (made : List ActionId) (h : Held) (q p i : ℕ) → h.id ≡ q → (p ≡ q → ⊥) → names (names_of (unshown made h)) (own_name p i) ≡ false
 unshown-other made h q p i mine apart = none-other h.queue.reds h.id (λ a. nat_lt (index_in made h.id) a.id.index) p i (λ e. apart (e ∙ mine))
 
-pub recover-meets : (w : World) (q p : ℕ) → ((d : Disk) (green : List ActionId) (s : Node) → node_of w q ≡ Some s → s.life ≡ Down d green → d.content.id ≡ q) → Meets w (Recover q) (recover w q) p
-recover-meets w q p named = at (node_of w q) refl where
-  life : (s : Node) (l : NodeState) → s.life ≡ l → node_of w q ≡ Some s → Meets w (Recover q) (recover_from w l) p
-  life s (Up r disk) is found = same-stays w (Recover q) (quietly w) p refl refl refl
+pub recover-meets : (w : World) (e : Event) (q p : ℕ) → is_recovery_of p e ≡ (q == p) → ((d : Disk) (green : List ActionId) (s : Node) → node_of w q ≡ Some s → s.life ≡ Down d green → d.content.id ≡ q) → Meets w e (recover w q) p
+recover-meets w e q p of named = at (node_of w q) refl where
+  life : (s : Node) (l : NodeState) → s.life ≡ l → node_of w q ≡ Some s → Meets w e (recover_from w l) p
+  life s (Up r disk) is found = same-stays w e (quietly w) p refl refl refl
   life s (Down disk green) is found =
       let r = recovered disk in
       let id : r.held.id ≡ q = recovered-id disk.content ∙ named disk green s found is in
@@ -289,7 +308,7 @@ recover-meets w q p named = at (node_of w q) refl where
             let was : disk_held w q ≡ Some disk.content = ap (λ (o : Option Node). option_map (λ s. on_disk s.life) o) found ∙ ap (λ l. Some (on_disk l)) is in
             let off : replica_of w q ≡ None = ap (λ (o : Option Node). option_and_then (λ s. running s.life) o) found ∙ ap running is in
             Wakes (record {
-              event = eq-eqb q p (sym same);
+              event = of ∙ eq-eqb q p (sym same);
               none = ap (replica_of w) same ∙ off;
               replica = r;
               runs = ap (replica_of h.world) same ∙ here.0;
@@ -300,9 +319,14 @@ recover-meets w q p named = at (node_of w q) refl where
             })
       ]
 
-  at : (o : Option Node) → node_of w q ≡ o → Meets w (Recover q) (option_map_or (λ s. recover_from w s.life) o (quietly w)) p
-  at None found = same-stays w (Recover q) (quietly w) p refl refl refl
+  at : (o : Option Node) → node_of w q ≡ o → Meets w e (option_map_or (λ s. recover_from w s.life) o (quietly w)) p
+  at None found = same-stays w e (quietly w) p refl refl refl
   at (Some s) found = life s s.life refl found
+
+-- a recovery in which a stop is armed
+pub recover_under-meets : (w : World) (e : Event) (q : ℕ) (strike : Strike) (p : ℕ) → is_recovery_of p e ≡ (q == p) →
+    ((d : Disk) (green : List ActionId) (s : Node) → node_of w q ≡ Some s → s.life ≡ Down d green → d.content.id ≡ q) → Meets w e (recover_under w q strike) p
+recover_under-meets w e q strike p of named = recover_under-cases w q strike (λ go. Meets w e go p) (λ v. swap-meets w v e q p) (recover-meets w e q p of named)
 
 -- ---- a joiner
 

@@ -15,14 +15,14 @@ use Rattle.cg_model.specs.ReplicaStep.{Deliveries}
 use Rattle.cg_disk_records.specs.Crash.{FailOnce, StopWith, Disk}
 use Rattle.cg_base.specs.declared.action_id.ActionId.{ActionId}
 use Rattle.cg_schedule.specs.declared.event.Event.{Event}
-use Rattle.cg_schedule.specs.declared.event.Event.TheVariants.{Start, Split, Merge, Request, Weak, Dirty, Order, Recover, Show, ShowOrder, Gather, End, Receive, Deliver, Rounds, Stop, Fail, Join, Leave, Transfer}
+use Rattle.cg_schedule.specs.declared.event.Event.TheVariants.{Start, Split, Merge, Request, Weak, Dirty, Order, Recover, RecoverStopped, Downgrade, Show, ShowOrder, Gather, End, Receive, Deliver, Rounds, Stop, Fail, Join, Leave, Transfer}
 use Rattle.cg_model.specs.World.{Down, Node, World, has_begun, node_of, replica_of}
 use Rattle.cg_model.specs.Admission.{first_refusal, takes_part, never_named, joiner_left, not_green}
 use Rattle.cg_model.specs.AdmissionCalls.{begun_already}
 use Rattle.cg_model.specs.Run.{MayStand}
 use Rattle.cg_model.specs.Chronicle.{Chronicle}
 use Rattle.cg_model.specs.Looks.{on_disk, disk_held}
-use Rattle.cg_model.specs.Step.{quietly, name_also, snapshot_for, take_pieces, transfer, happens}
+use Rattle.cg_model.specs.Step.{quietly, name_also, snapshot_for, take_pieces, transfer, happens, downgrade}
 use Rattle.cg_model.specs.Played.{StandsBeside}
 use Rattle.cg_agree_lemmas.specs.UnorderedKept.{first-none}
 use Rattle.cg_agree_lemmas.specs.MadeSplit.{rising-set-list}
@@ -30,7 +30,8 @@ use Rattle.cg_agree_lemmas.specs.RestsBehind.{handed-ids, split-to}
 use Rattle.cg_agree.proofs.JoinersMadeNone.{snapshot-none}
 use Rattle.cg_agree_lemmas.specs.EventInputs.{IsHanded}
 use Rattle.cg_agree_lemmas.specs.EventSays.{NodeOwes}
-use Rattle.cg_agree.proofs.EventMeets.{Meets, same-stays, asked, handed-one, handed-out, start-meets, stop-meets, arm-meets, recover-meets, pieces-meet}
+use Rattle.cg_agree_lemmas.specs.DiskSwaps.{downgrade-swaps}
+use Rattle.cg_agree.proofs.EventMeets.{Meets, same-stays, asked, handed-one, handed-out, start-meets, stop-meets, arm-meets, recover-meets, pieces-meet, swap-meets, recover_under-meets}
 use Rattle.cg_group.specs.RefusalLaws.{refuse_none}
 
 module _ (c : Chronicle) (w : World) (stands : StandsBeside c w) where
@@ -86,7 +87,9 @@ module _ (c : Chronicle) (w : World) (stands : StandsBeside c w) where
     happens-meets (Weak q query) may admitted p = same-stays w (Weak q query) _ p refl refl refl
     happens-meets (Dirty q query) may admitted p = same-stays w (Dirty q query) _ p refl refl refl
     happens-meets (Order q) may admitted p = same-stays w (Order q) _ p refl refl refl
-    happens-meets (Recover q) may admitted p = recover-meets w q p (disk-named q)
+    happens-meets (Recover q) may admitted p = recover-meets w (Recover q) q p refl (disk-named q)
+    happens-meets (RecoverStopped q call fill) may admitted p = recover_under-meets w (RecoverStopped q call fill) q (record { call = call; fault = StopWith fill }) p refl (disk-named q)
+    happens-meets (Downgrade q) may admitted p = swap-meets w (downgrade w q) (Downgrade q) q p (downgrade-swaps w q)
     happens-meets (Show q) may admitted p = same-stays w (Show q) _ p refl refl refl
     happens-meets ShowOrder may admitted p = same-stays w ShowOrder _ p refl refl refl
     happens-meets Gather may admitted p = same-stays w Gather _ p refl refl refl

@@ -16,7 +16,7 @@ use Rattle.cg_disk_records.specs.Stored.{whiten}
 use Rattle.cg_model.specs.ReplicaStep.{Input, Deliveries, replica_step}
 use Rattle.cg_disk_records.specs.Crash.{whitened, new_disk}
 use Rattle.cg_schedule.specs.declared.event.Event.{Event}
-use Rattle.cg_schedule.specs.declared.event.Event.TheVariants.{Start, Split, Merge, Request, Weak, Dirty, Order, Recover, Show, ShowOrder, Gather, End, Receive, Deliver, Rounds, Stop, Fail, Join, Leave, Transfer}
+use Rattle.cg_schedule.specs.declared.event.Event.TheVariants.{Start, Split, Merge, Request, Weak, Dirty, Order, Recover, RecoverStopped, Downgrade, Show, ShowOrder, Gather, End, Receive, Deliver, Rounds, Stop, Fail, Join, Leave, Transfer}
 use Rattle.cg_model.specs.World.{Up, Node, TransferState, World, running, has_begun, node_of, replica_of, bring_up}
 use Rattle.cg_model.specs.Admission.{first_refusal}
 use Rattle.cg_model.specs.Show.{ended}
@@ -179,12 +179,14 @@ module _ (c : Chronicle) (w : World) (stands : StandsBeside c w) where
       (hand-behind (Stays n) (quietly u) p (Deliveries (deliveries_at (home g p) places))
       (λ r low. step-still n r (deliveries_at (home g p) places) (places-within n (home g p) (placed-within c w stands (regular_in (phase_of g p))) places) low) q)) r runs
   moved (Recover p) may admitted q moves r runs = inr (inr moves)
+  moved (RecoverStopped p call fill) may admitted q moves r runs = inr (inr moves)
   moved (Transfer p joiner pieces) may admitted q moves r runs = inl (transferred p joiner pieces (unbegun w p joiner pieces admitted) q (eqb-true joiner q moves) r runs)
   moved (Start set) may admitted q moves r runs = absurd (let clash : false ≡ true = moves in cc)
   moved (Request p cmds query) may admitted q moves r runs = absurd (let clash : false ≡ true = moves in cc)
   moved (Weak p query) may admitted q moves r runs = absurd (let clash : false ≡ true = moves in cc)
   moved (Dirty p query) may admitted q moves r runs = absurd (let clash : false ≡ true = moves in cc)
   moved (Order p) may admitted q moves r runs = absurd (let clash : false ≡ true = moves in cc)
+  moved (Downgrade p) may admitted q moves r runs = absurd (let clash : false ≡ true = moves in cc)
   moved (Show p) may admitted q moves r runs = absurd (let clash : false ≡ true = moves in cc)
   moved ShowOrder may admitted q moves r runs = absurd (let clash : false ≡ true = moves in cc)
   moved Gather may admitted q moves r runs = absurd (let clash : false ≡ true = moves in cc)

@@ -18,7 +18,7 @@ use Rattle.cg_client.specs.Replica.{Held, Replica, created}
 use Rattle.cg_model.specs.ReplicaStep.{Deliveries, Asks as AsksOf}
 use Rattle.cg_disk_records.specs.Crash.{FailOnce, StopWith, new_disk}
 use Rattle.cg_schedule.specs.declared.event.Event.{Event}
-use Rattle.cg_schedule.specs.declared.event.Event.TheVariants.{Start, Split, Merge, Request, Weak, Dirty, Order, Recover, Show, ShowOrder, Gather, End, Receive, Deliver, Rounds, Stop, Fail, Join, Leave, Transfer}
+use Rattle.cg_schedule.specs.declared.event.Event.TheVariants.{Start, Split, Merge, Request, Weak, Dirty, Order, Recover, RecoverStopped, Downgrade, Show, ShowOrder, Gather, End, Receive, Deliver, Rounds, Stop, Fail, Join, Leave, Transfer}
 use Rattle.cg_model.specs.World.{NodeState, Up, Down, Node, World, no_world, running, has_begun, node_of, replica_of, bring_up, TransferState}
 use Rattle.cg_model.specs.Admission.{first_refusal, takes_part, never_named, joiner_left, not_green}
 use Rattle.cg_model.specs.AdmissionCalls.{begun_already}
@@ -27,7 +27,7 @@ use Rattle.cg_model.specs.Run.{MayStand}
 use Rattle.cg_model.specs.Chronicle.{Chronicle}
 use Rattle.cg_model.specs.Attempts.{held_in}
 use Rattle.cg_model.specs.Looks.{greens_of, stood_of, on_disk, disk_held}
-use Rattle.cg_model.specs.Step.{quietly, ask, name_also, recover_from, joiner_replica, snapshot_for, without_snapshot, with_pieces, take_pieces, transfer, happens, world_step}
+use Rattle.cg_model.specs.Step.{quietly, ask, name_also, recover_from, joiner_replica, snapshot_for, without_snapshot, with_pieces, take_pieces, transfer, happens, world_step, downgrade}
 use Rattle.cg_model.specs.FactsBooks.{LifeMade, MadeBook, MadeFits, NodeMade}
 use Rattle.cg_model.specs.FactsReplica.{IsCore, IsModeData}
 use Rattle.cg_model.specs.Played.{StandsBeside, with_world}
@@ -35,7 +35,8 @@ use Rattle.cg_agree_lemmas.specs.UnorderedKept.{first-none}
 use Rattle.cg_agree_lemmas.specs.MadeSplit.{rising-set-list}
 use Rattle.cg_agree_lemmas.specs.LivesRest.{LifeRests, NodeRests, node-in}
 use Rattle.cg_agree_lemmas.specs.RestsBehind.{handed-ids, split-to}
-use Rattle.cg_agree_lemmas.specs.MadeWorlds.{IsCoreAt, LifeSound, NodeSound, fits-same, hand-fits, handed-fits, begun-fits, stopped-fits, armed-fits, came-up, joined-fits}
+use Rattle.cg_agree_lemmas.specs.MadeWorlds.{IsCoreAt, LifeSound, NodeSound, fits-same, hand-fits, handed-fits, begun-fits, stopped-fits, armed-fits, came-up, joined-fits, swapped-fits}
+use Rattle.cg_agree_lemmas.specs.DiskSwaps.{downgrade-swaps, recover_under-cases}
 use Rattle.cg_agree.proofs.JoinersMadeNone.{snapshot-none}
 use Rattle.cg_client.specs.Joined.{piece_count}
 use Rattle.cg_group.specs.RefusalLaws.{refuse_none}
@@ -146,6 +147,9 @@ module _ (c : Chronicle) (w : World) (stands : StandsBeside c w) where
     happens-made (Dirty p query) may admitted = fits
     happens-made (Order p) may admitted = grouped-fits (order w.group p)
     happens-made (Recover p) may admitted = recovered-fits p
+    happens-made (RecoverStopped p call fill) may admitted =
+        recover_under-cases w p (record { call = call; fault = StopWith fill }) (λ go. MadeFits go.world) (λ v. swapped-fits w v p fits) (recovered-fits p)
+    happens-made (Downgrade p) may admitted = swapped-fits w (downgrade w p) p fits (downgrade-swaps w p)
     happens-made (Show p) may admitted = fits
     happens-made ShowOrder may admitted = fits
     happens-made Gather may admitted = grouped-fits (gather w.group)

@@ -17,13 +17,13 @@ use Rattle.cg_client.specs.Replica.{Held, Replica, fresh}
 use Rattle.cg_model.specs.ReplicaStep.{Input, Deliveries, Asks as AsksOf}
 use Rattle.cg_disk_records.specs.Crash.{FailOnce, StopWith, Strike, at_rest, new_disk}
 use Rattle.cg_schedule.specs.declared.event.Event.{Event}
-use Rattle.cg_schedule.specs.declared.event.Event.TheVariants.{Start, Split, Merge, Request, Weak, Dirty, Order, Recover, Show, ShowOrder, Gather, End, Receive, Deliver, Rounds, Stop, Fail, Join, Leave, Transfer}
+use Rattle.cg_schedule.specs.declared.event.Event.TheVariants.{Start, Split, Merge, Request, Weak, Dirty, Order, Recover, RecoverStopped, Downgrade, Show, ShowOrder, Gather, End, Receive, Deliver, Rounds, Stop, Fail, Join, Leave, Transfer}
 use Rattle.cg_report.specs.declared.entry.Made.{Made}
 use Rattle.cg_model.specs.FactsBooks.{LifeMade, MadeFits, NodeMade}
-use Rattle.cg_model.specs.World.{NodeState, Up, Down, Node, TransferState, World, node_of, replica_of, bring_up}
+use Rattle.cg_model.specs.World.{NodeState, Up, Down, Node, TransferState, World, node_of, replica_of, bring_up, set_life}
 use Rattle.cg_model.specs.Show.{StepInProgress, ended}
 use Rattle.cg_model.specs.Run.{MayStand}
-use Rattle.cg_model.specs.Step.{quietly, hand_to, hand, hand_over, name_also, begin_replica, arm_at, crash_at, recover_from, joiner_replica, snapshot_for, without_snapshot, with_pieces, take_pieces, transfer, happens, world_step}
+use Rattle.cg_model.specs.Step.{quietly, hand_to, hand, hand_over, name_also, begin_replica, arm_at, crash_at, recover_from, joiner_replica, snapshot_for, without_snapshot, with_pieces, take_pieces, transfer, happens, world_step, downgrade}
 use Rattle.cg_model.specs.Chronicle.{Chronicle}
 use Rattle.cg_model.specs.Looks.{on_disk, disk_held, stood_of}
 use Rattle.cg_model.specs.FactsLists.{IsRising}
@@ -36,6 +36,8 @@ use Rattle.cg_agree_lemmas.specs.WorldTurns.{hand-behind}
 use Rattle.cg_agree_lemmas.specs.MadeWorlds.{NodeSound, fits-same, hand-fits}
 use Rattle.cg_agree.proofs.MadeBookKept.{sound-at}
 use Rattle.cg_agree_lemmas.specs.MadeShown.{AreLast, NodeLast, AddsTo, Adds, adds-wider, LifeWell, NodeWell, last-set, core-last, turn-adds, none-adds, recovery-adds}
+use Rattle.cg_agree_lemmas.specs.DiskSwaps.{Swaps, downgrade-swaps, recover_under-cases}
+use Rattle.cg_agree_lemmas.specs.RecoveryMakes.{IsOwnLast}
 use Rattle.cg_client.specs.Joined.{piece_count}
 
 -- ---- what is handed
@@ -132,6 +134,19 @@ module _ (start : List Weighted) (w : World) (p : ℕ) (well : NodeWell start p 
     }
     life (Down disk green) well made = record { made = refl; order = refl; last = last }
 
+swapped-quiet : (w v : World) (p : ℕ) → AreLast w.made w.nodes → Swaps w v p → IsQuiet w v
+swapped-quiet w v p last is = elim is [
+  | inl same ↦ subst (IsQuiet w) (sym same) (record { made = refl; order = refl; last = last })
+  | inr other ↦
+      let new : NodeState = Down other.new other.green in
+      let here : IsOwnLast (index_in w.made p) p other.old.content = subst (NodeLast (index_in w.made p) p) other.node (last p) in
+      subst (IsQuiet w) (sym other.world) (record {
+        made = refl;
+        order = refl;
+        last = last-set w (set_life w p new) p new (λ q. node_of-set w p new q) (subst (IsOwnLast (index_in w.made p) p) (sym other.content) here) (λ q apart. refl) last;
+      })
+]
+
 -- a joiner comes up
 pieces-quiet : (w : World) (s : TransferState) (taken : ℕ) → AreLast w.made w.nodes → IsQuiet w (with_pieces w s taken)
 pieces-quiet w s taken last =
@@ -203,6 +218,9 @@ module _ (c : Chronicle) (w : World) (stands : StandsBeside c w) (fits : MadeFit
   happens-adds (Dirty p query) may = unchanged
   happens-adds (Order p) may = quiet-adds w (record w { group = order w.group p }) (record { made = refl; order = refl; last = last })
   happens-adds (Recover p) may = recovered-adds p
+  happens-adds (RecoverStopped p call fill) may =
+      recover_under-cases w p (record { call = call; fault = StopWith fill }) (λ go. AddsSome w go.made go.world) (λ v is. quiet-adds w v (swapped-quiet w v p last is)) (recovered-adds p)
+  happens-adds (Downgrade p) may = quiet-adds w (downgrade w p) (swapped-quiet w (downgrade w p) p last (downgrade-swaps w p))
   happens-adds (Show p) may = unchanged
   happens-adds ShowOrder may = unchanged
   happens-adds Gather may = quiet-adds w (record w { group = gather w.group }) (record { made = refl; order = refl; last = last })

@@ -15,16 +15,16 @@ use Rattle.cg_group.specs.declared.delivery.Delivery.TheVariants.{Regular as Reg
 use Rattle.cg_client.specs.Replica.{Held, Replica}
 use Rattle.cg_model.specs.ReplicaStep.{Input, Deliveries, Asks as AsksOf}
 use Rattle.cg_schedule.specs.declared.event.Event.{Event}
-use Rattle.cg_schedule.specs.declared.event.Event.TheVariants.{Start, Split, Merge, Request, Weak, Dirty, Order, Recover, Show, ShowOrder, Gather, End, Receive, Deliver, Rounds, Stop, Fail, Join, Leave, Transfer}
+use Rattle.cg_schedule.specs.declared.event.Event.TheVariants.{Start, Split, Merge, Request, Weak, Dirty, Order, Recover, RecoverStopped, Downgrade, Show, ShowOrder, Gather, End, Receive, Deliver, Rounds, Stop, Fail, Join, Leave, Transfer}
 use Rattle.cg_model.specs.World.{Node, running, World, replica_of, left_replicas}
 use Rattle.cg_model.specs.Admission.{first_refusal, unknown, has_left, takes_part, never_named, joiner_left, not_green}
 use Rattle.cg_model.specs.AdmissionCalls.{begun_already}
 use Rattle.cg_model.specs.Run.{MayStand}
 use Rattle.cg_model.specs.Looks.{told_in, snapshot_of, disk_held}
-use Rattle.cg_model.specs.Step.{world_step, snapshot_for}
+use Rattle.cg_model.specs.Step.{world_step, snapshot_for, is_struck}
 use Rattle.cg_model.specs.Chronicle.{Chronicle}
 use Rattle.cg_model.specs.Turns.{turns_of, taken}
-use Rattle.cg_model.specs.Small.{Small, Makes, Enters, Orders, Receives, Hands, Asks, Settles, Copies, Joins, small_step}
+use Rattle.cg_model.specs.Small.{Small, Makes, Enters, Orders, Receives, Hands, Asks, Settles, Copies, Joins, small_step, Recovers}
 use Rattle.cg_model.specs.Smalls.{is_between, smalls_in, turns_as, ending, leaving_steps, copy_steps, join_steps, gather_steps, missing}
 use Rattle.cg_model.specs.FactsLists.{IsRising}
 use Rattle.cg_model.specs.FactsReplica.{IsModeData, GoesOn, IsAsOnDisk}
@@ -47,8 +47,10 @@ use Rattle.cg_agree_lemmas.specs.SoundWorlds.{IsSound, sound-same, sound-of, unt
 use Rattle.cg_agree_lemmas.specs.EventMembers.{not-empty, leaving-members, coming-members}
 use Rattle.cg_agree_lemmas.specs.RestFacts.{IsOpening, IsQuiet, IsKept, rest-quiet, rest-with, rest-among, smalls_for, written-kept}
 use Rattle.cg_agree_lemmas.specs.SmallWorlds.{played_in, MayIn, RestAlong, may-all, played-world, small-world}
+use Rattle.cg_agree_lemmas.specs.MadeOlder.{downgrade-made, stopped-made}
 use Rattle.cg_base.specs.Sets.{has}
 use Rattle.cg_client.specs.Joined.{piece_count}
+use Rattle.cg_disk_records.specs.Crash.{StopWith}
 
 -- ---- in which crashes come where disks agree
 
@@ -199,6 +201,10 @@ module _ (c : Chronicle) (w : World) (same : IsSame w c.world) (sound : IsSound 
   made (Dirty p query) stand admitted = made-quietly (Dirty p query) (dirty-made w p query) tt
   made (Order p) stand admitted = made-quietly (Order p) (order-made w p admitted) (tt, tt)
   made (Recover p) stand admitted = made-quietly (Recover p) (recover-made w p admitted) (tt, tt)
+  made (RecoverStopped p call fill) stand admitted =
+      made-quietly (RecoverStopped p call fill) (stopped-made w p call fill sound.nodes admitted)
+      (cond_both (is_struck w p (record { call = call; fault = StopWith fill })) [] (Recovers p ∷ []) (Each IsQuiet) (λ y. tt) (λ n. (tt, tt)))
+  made (Downgrade p) stand admitted = made-quietly (Downgrade p) (downgrade-made w p sound.nodes) tt
   made (Show p) stand admitted = made-quietly (Show p) (show-made w p) tt
   made ShowOrder stand admitted = made-quietly ShowOrder (show_order-made w) tt
   made Gather stand admitted = made-quietly Gather (gather-made w sound.group.rises sound.group.fits) (gather-quiet w.group)

@@ -17,6 +17,8 @@ use Rattle.cg_agree_lemmas.specs.TurnGreens.{IsBetween, facts-along, greens-alon
 use Rattle.cg_agree_lemmas.specs.TurnWorlds.{life_at, up_node}
 use Rattle.cg_agree_lemmas.specs.TurnsReached.{IsReached, LifeReached, NodeReached}
 use Rattle.cg_agree_lemmas.specs.WorldTurns.{EndsSo, IsBehind, alone-ends, from-same, hand-behind, handed-behind, handed-ends}
+use Rattle.cg_agree_lemmas.specs.DiskSwaps.{IsSwapped}
+use Rattle.cg_agree_lemmas.specs.ChronicleFacts.{node_of-set}
 use Rattle.cg_model.specs.FactsBooks.{IsToShow, LifeToShow, OrderFits, NodeToShow}
 use Rattle.cg_model.specs.Chronicle.{Chronicle}
 use Rattle.cg_model.specs.Facts.{Invariant}
@@ -283,6 +285,19 @@ module _ (kept : KeptBySmalls) (c : Chronicle) (w : World) (stands : StandsBesid
       moved-kept w.order p (Up r after) is (Front-refl w.order) order-stays
       (up-stays p w.order (Front-refl w.order) r disk.content after.content (running-of p w (up_node p r disk) node) (disk-of p w (up_node p r disk) node) (disk-of p u new there)
       (ap (λ (h : Held). green_count h.queue) content))
+
+  -- the disk of a replica that is down is exchanged
+  pub swapped-kept : (p : ℕ) → IsSwapped w u p → IsKept w.order
+  swapped-kept p is =
+      let life : NodeState = Down is.new is.green in
+      let old : Node = record { id = p; life = Down is.old is.green } in
+      let new : Node = record { id = p; life = life } in
+      let node : (q : ℕ) → node_of u q ≡ cond (p == q) (Some new) (node_of w q) = λ q. ap (λ (x : World). node_of x q) is.world ∙ node_of-set w p life q in
+      let there = node p ∙ cond-true (p == p) (Some new) (node_of w p) (eq-eqb p p refl) in
+      let count : green_count is.new.content.queue ≡ green_count is.old.content.queue = ap (λ (h : Held). green_count h.queue) is.content in
+      let stays : names_of (stood_of c p) ≡ behind_of p = ap names_of (sym (rest p) ∙ sym (greens-same p is.old.content is.new.content (disk-of p w old is.node) (disk-of p u new there) count)) in
+      let show : IsToShow w.order is.green (names_of (stood_of c p)) = subst (NodeToShow w.order (names_of (stood_of c p))) is.node (order.down p) in
+      moved-kept w.order p life node (Front-refl w.order) order-stays (record { shown = show.shown; all = sym stays ∙ show.all; there = show.there })
 
   -- a joiner begins with no more than stands in the order
   pub joined-kept : (p : ℕ) (r : Replica) (disk : Disk) → ((q : ℕ) → node_of u q ≡ cond (p == q) (Some (record { id = p; life = Up r disk })) (node_of w q)) →

@@ -1,10 +1,10 @@
 -- What was told counts no more greens than stand in the printed order, behind each event: only a merge lets replicas tell something, and
 -- nothing becomes green in it.
 use Rattle.cg_model.specs.ReplicaStep.{Input, Deliveries, replica_step}
-use Rattle.cg_disk_records.specs.Crash.{Disk, EventEnd, Runs, Crashes as EndsInCrash, end_event}
+use Rattle.cg_disk_records.specs.Crash.{Disk, EventEnd, Runs, Crashes as EndsInCrash, end_event, StopWith}
 use Rattle.cg_action.specs.declared.action.Kind.TheVariants.{Update, Join as JoinKind, Leave as LeaveKind}
 use Rattle.cg_schedule.specs.declared.event.Event.{Event}
-use Rattle.cg_schedule.specs.declared.event.Event.TheVariants.{Start, Split, Merge, Request, Weak, Dirty, Order, Recover, Show, ShowOrder, Gather, End, Receive, Deliver, Rounds, Stop, Fail, Join, Leave, Transfer}
+use Rattle.cg_schedule.specs.declared.event.Event.TheVariants.{Start, Split, Merge, Request, Weak, Dirty, Order, Recover, RecoverStopped, Downgrade, Show, ShowOrder, Gather, End, Receive, Deliver, Rounds, Stop, Fail, Join, Leave, Transfer}
 use Rattle.cg_group.specs.declared.delivery.Delivery.TheVariants.{Regular as RegularIn}
 use Rattle.cg_model.specs.FactsBooks.{OrderFits}
 use Rattle.cg_model.specs.Small.{Small, Starts, Makes, Enters, Orders, Receives, Hands, Leaves, Asks, Settles, Commits, Crashes, Recovers, Copies, Joins, small_step, newest_conf}
@@ -38,6 +38,7 @@ use Rattle.cg_model.specs.Looks.{core_of, disk_held, greens_of, on_disk, stood_o
 use Rattle.cg_model.specs.Noting.{played}
 use Rattle.cg_model.specs.Smalls.{copy_steps, ending, ending_as, gather_steps, join_steps, leaving_steps, may_make, smalls_in}
 use Rattle.cg_model.specs.Turns.{Taken, stands, taken, taken_as, turns_in, turns_of}
+use Rattle.cg_model.specs.Step.{is_struck}
 use Rattle.cg_base.specs.declared.action_id.ActionId.{ActionId}
 use Rattle.cg_client.specs.Replica.{Held}
 use Rattle.cg_client.specs.Turn.{Turn}
@@ -114,6 +115,8 @@ untold-smalls w (Join p joiner weight) is = untold-turns (λ q. Asks q (JoinKind
 untold-smalls w (Leave p server) is = untold-turns (λ q. Asks q (LeaveKind server) ∷ []) (λ q. (tt, tt)) (turns_of w (Leave p server))
 untold-smalls w (Stop p call fill) is = cond_both (call == 0) (Crashes p ∷ []) [] (Each IsUntold) (λ y. (tt, tt)) (λ n. tt)
 untold-smalls w (Recover p) is = (tt, tt)
+untold-smalls w (RecoverStopped p call fill) is = cond_both (is_struck w p (record { call = call; fault = StopWith fill })) [] (Recovers p ∷ []) (Each IsUntold) (λ y. tt) (λ n. (tt, tt))
+untold-smalls w (Downgrade p) is = tt
 untold-smalls w (Transfer p joiner pieces) is = Each-weaker IsQuiet IsUntold quiet-untold (copy_steps w p joiner ++ join_steps w p joiner pieces) (transfer-quiet w p joiner pieces)
 untold-smalls w (Weak p query) is = tt
 untold-smalls w (Dirty p query) is = tt

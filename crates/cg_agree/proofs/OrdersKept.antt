@@ -3,10 +3,10 @@ use Rattle.cg_model.specs.ReplicaStep.{Input, Deliveries, Asks as AsksOf}
 use Rattle.cg_group.specs.Events.{order as order_group, receive, gather, deliveries_at, handed_in_split, deliver, split, merge}
 use Rattle.cg_action.specs.declared.action.Kind.TheVariants.{Update, Join as JoinKind, Leave as LeaveKind}
 use Rattle.cg_schedule.specs.declared.event.Event.{Event}
-use Rattle.cg_schedule.specs.declared.event.Event.TheVariants.{Start, Split, Merge, Request, Weak, Dirty, Order, Recover, Show, ShowOrder, Gather, End, Receive, Deliver, Rounds, Stop, Fail, Join, Leave, Transfer}
+use Rattle.cg_schedule.specs.declared.event.Event.TheVariants.{Start, Split, Merge, Request, Weak, Dirty, Order, Recover, RecoverStopped, Downgrade, Show, ShowOrder, Gather, End, Receive, Deliver, Rounds, Stop, Fail, Join, Leave, Transfer}
 use Rattle.cg_group.specs.declared.delivery.Delivery.TheVariants.{Regular as RegularIn}
 use Rattle.cg_model.specs.FactsBooks.{AreShown, IsNameShown, KeepsUnshown, LifeIsDown, LifeToShow, MadeFits, OrderFits, NodeIsDown, NodeToShow}
-use Rattle.cg_model.specs.Step.{quietly, ask, hand_out, name_also, begin_replica, arm_at, arm, crash_at, stop, recover_from, recover, joiner_replica, snapshot_for, without_snapshot, take_pieces, transfer, happens, world_step}
+use Rattle.cg_model.specs.Step.{quietly, ask, hand_out, name_also, begin_replica, arm_at, arm, crash_at, stop, recover_from, recover, joiner_replica, snapshot_for, without_snapshot, take_pieces, transfer, happens, world_step, downgrade, recover_under}
 use Rattle.cg_model.specs.World.{NodeState, Up, Down, Node, TransferState, World, no_world, running, node_of, replica_of, bring_up}
 use Rattle.cg_model.specs.Show.{ended}
 use Rattle.cg_model.specs.Small.{Starts, small_step, Small}
@@ -15,7 +15,7 @@ use Rattle.cg_agree_lemmas.specs.RestsBehind.{handed-ids, split-to, each-handed}
 use Rattle.cg_agree_lemmas.specs.MadeSplit.{rising-set-list}
 use Rattle.cg_agree.proofs.MovesKept.{kept-by-smalls}
 use Rattle.cg_model.specs.Chronicle.{Chronicle, no_chronicle}
-use Rattle.std.proofs.Common.{◌≡◌, ◌++◌, ◌∷◌, ◌≤◌, ◌∙◌, ◌+◌, Bool, IfSome, List, None, Option, Some, ap, arith, cond, false, fold, length, map, min, nat_le, option_and_then, option_map, refl, subst, suc, sym, take, true, zero, ℕ, []}
+use Rattle.std.proofs.Common.{◌≡◌, ◌++◌, ◌∷◌, ◌≤◌, ◌∙◌, ◌+◌, Bool, IfSome, List, None, Option, Some, ap, arith, cond, false, fold, length, map, min, nat_le, option_and_then, option_map, refl, subst, suc, sym, take, true, zero, ℕ, [], inl, inr}
 use Rattle.std.proofs.lemmas.Bool.{and_from, le-leb}
 use Rattle.std.specs.List.{list_all}
 use Rattle.std.specs.Option.{option_map_or}
@@ -34,7 +34,7 @@ use Rattle.cg_agree_lemmas.specs.HeldCommit.{recovered-id}
 use Rattle.cg_agree.proofs.MadeBookKept.{event-made}
 use Rattle.cg_agree.proofs.MadeOfSmalls.{made-of-smalls}
 use Rattle.cg_agree.proofs.OneLine.{IsOnTop}
-use Rattle.cg_agree.proofs.OrderBehind.{IsKept, NodeStateOrder, NodeOrder, alone-kept, armed-kept, joined-kept, listed-kept, order-stays, quiet-kept, recovered-kept, stopped-kept}
+use Rattle.cg_agree.proofs.OrderBehind.{IsKept, NodeStateOrder, NodeOrder, alone-kept, armed-kept, joined-kept, listed-kept, order-stays, quiet-kept, recovered-kept, stopped-kept, swapped-kept}
 use Rattle.cg_agree_lemmas.specs.OrderCopies.{copies-event, copy-of}
 use Rattle.cg_agree_lemmas.specs.OrderGrows.{IsOrder}
 use Rattle.cg_agree.proofs.OrderOnTop.{green-there}
@@ -50,6 +50,7 @@ use Rattle.cg_agree_lemmas.specs.Standings.{rising-lower}
 use Rattle.cg_agree_lemmas.specs.TurnGreens.{greens-along, names-count}
 use Rattle.cg_agree_lemmas.specs.TurnsReached.{NodeReached}
 use Rattle.cg_agree_lemmas.specs.WorldTurns.{IsBehind, from-same, handed-behind}
+use Rattle.cg_agree_lemmas.specs.DiskSwaps.{Swaps, downgrade-swaps, recover_under-cases}
 use Rattle.cg_model.specs.Admission.{first_refusal}
 use Rattle.cg_model.specs.Facts.{Invariant}
 use Rattle.cg_model.specs.Fronts.{Front}
@@ -136,6 +137,16 @@ module _ (kept : KeptBySmalls) (c : Chronicle) (w : World) (stands : StandsBesid
       at : (o : Option Node) → node_of w p ≡ o → option_map_or (λ s. arm_at w p strike s.life) o w ≡ u → KeepsTo u.order
       at None e is = quiet w is (λ q. refl) refl
       at (Some s) e is = life s e s.life refl is
+
+    swap-kept : (p : ℕ) → Swaps w u p → KeepsTo u.order
+    swap-kept p is = elim is [
+      | inl unchanged ↦ quiet w (sym unchanged) (λ q. refl) refl
+      | inr other ↦ subst KeepsTo (sym (ap (λ (x : World). x.order) other.world)) (swapped-kept kept c w stands order smalls may j u same rest_on p other)
+    ]
+
+    recover_under-kept : (p : ℕ) (strike : Strike) → (recover_under w p strike).world ≡ u → KeepsTo u.order
+    recover_under-kept p strike =
+        recover_under-cases w p strike (λ go. go.world ≡ u → KeepsTo u.order) (λ v swaps is. swap-kept p (subst (λ (x : World). Swaps w x p) is swaps)) (recover-kept p)
 
     transfer-kept : (p joiner pieces : ℕ) → (transfer w p joiner pieces).world ≡ u → KeepsTo u.order
     transfer-kept p joiner pieces = at (replica_of w p) refl where
@@ -238,6 +249,10 @@ module _ (kept : KeptBySmalls) (c : Chronicle) (w : World) (stands : StandsBesid
   happens-kept (Dirty q query) stand admitted may j same rest_on = quiet (smalls_in w (Dirty q query)) may j w same rest_on w refl (λ x. refl) refl
   happens-kept (Order q) stand admitted may j same rest_on = (let v : World = record w { group = order_group w.group q } in quiet (smalls_in w (Order q)) may j v same rest_on v refl (λ x. refl) refl)
   happens-kept (Recover q) stand admitted may j same rest_on = recover-kept (smalls_in w (Recover q)) may j (recover w q).world same rest_on q refl
+  happens-kept (RecoverStopped q call fill) stand admitted may j same rest_on =
+      let strike : Strike = record { call = call; fault = StopWith fill } in
+      recover_under-kept (smalls_in w (RecoverStopped q call fill)) may j (recover_under w q strike).world same rest_on q strike refl
+  happens-kept (Downgrade q) stand admitted may j same rest_on = swap-kept (smalls_in w (Downgrade q)) may j (downgrade w q) same rest_on q (downgrade-swaps w q)
   happens-kept (Show q) stand admitted may j same rest_on = quiet (smalls_in w (Show q)) may j w same rest_on w refl (λ x. refl) refl
   happens-kept ShowOrder stand admitted may j same rest_on = quiet (smalls_in w ShowOrder) may j w same rest_on w refl (λ x. refl) refl
   happens-kept Gather stand admitted may j same rest_on = (let v : World = record w { group = gather w.group } in quiet (smalls_in w Gather) may j v same rest_on v refl (λ x. refl) refl)
@@ -289,6 +304,8 @@ module _ (kept : KeptBySmalls) (c : Chronicle) (w : World) (stands : StandsBesid
   tells-within (Dirty q query) stand may j same rest_on is = told-stays kept c w stands order _ may j _ same rest_on _ is (untold-smalls w (Dirty q query) tt)
   tells-within (Order q) stand may j same rest_on is = told-stays kept c w stands order _ may j _ same rest_on _ is (untold-smalls w (Order q) tt)
   tells-within (Recover q) stand may j same rest_on is = told-stays kept c w stands order _ may j _ same rest_on _ is (untold-smalls w (Recover q) tt)
+  tells-within (RecoverStopped q call fill) stand may j same rest_on is = told-stays kept c w stands order _ may j _ same rest_on _ is (untold-smalls w (RecoverStopped q call fill) tt)
+  tells-within (Downgrade q) stand may j same rest_on is = told-stays kept c w stands order _ may j _ same rest_on _ is (untold-smalls w (Downgrade q) tt)
   tells-within (Show q) stand may j same rest_on is = told-stays kept c w stands order _ may j _ same rest_on _ is (untold-smalls w (Show q) tt)
   tells-within ShowOrder stand may j same rest_on is = told-stays kept c w stands order _ may j _ same rest_on _ is (untold-smalls w ShowOrder tt)
   tells-within Gather stand may j same rest_on is = told-stays kept c w stands order _ may j _ same rest_on _ is (untold-smalls w Gather tt)

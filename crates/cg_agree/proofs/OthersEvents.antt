@@ -2,10 +2,10 @@
 use Rattle.cg_model.specs.ReplicaStep.{Input, Deliveries, Asks as AsksOf, replica_step}
 use Rattle.cg_action.specs.declared.action.Kind.TheVariants.{Update, Join as JoinKind, Leave as LeaveKind}
 use Rattle.cg_schedule.specs.declared.event.Event.{Event}
-use Rattle.cg_schedule.specs.declared.event.Event.TheVariants.{Start, Split, Merge, Request, Weak, Dirty, Order, Recover, Show, ShowOrder, Gather, End, Receive, Deliver, Rounds, Stop, Fail, Join, Leave, Transfer}
+use Rattle.cg_schedule.specs.declared.event.Event.TheVariants.{Start, Split, Merge, Request, Weak, Dirty, Order, Recover, RecoverStopped, Downgrade, Show, ShowOrder, Gather, End, Receive, Deliver, Rounds, Stop, Fail, Join, Leave, Transfer}
 use Rattle.cg_group.specs.declared.delivery.Delivery.TheVariants.{Transitional as TransitionalIn, Regular as RegularIn}
-use Rattle.cg_model.specs.FactsBooks.{AreShown, IsActionShown, IsMessageShown, IsNameShown, LifeIsDown, LifeShown, NodeIsDown, NodeShown}
-use Rattle.cg_model.specs.Step.{quietly, hand, hand_over, name_also, begin_replica, arm_at, crash_at, recover_from, recover, joiner_replica, snapshot_for, without_snapshot, with_pieces, take_pieces, transfer, happens, world_step}
+use Rattle.cg_model.specs.FactsBooks.{AreShown, IsActionShown, IsMessageShown, IsNameShown, LifeIsDown, LifeShown, NodeIsDown, NodeShown, HoldsFine}
+use Rattle.cg_model.specs.Step.{quietly, hand, hand_over, name_also, begin_replica, arm_at, crash_at, recover_from, recover, joiner_replica, snapshot_for, without_snapshot, with_pieces, take_pieces, transfer, happens, world_step, downgrade}
 use Rattle.cg_disk_records.specs.Stored.{recovery_turn as recover_disk}
 use Rattle.cg_model.specs.World.{NodeState, Up, Down, Node, TransferState, World, has_begun, node_of, replica_of, set_life, bring_up, bring_down}
 use Rattle.cg_group.specs.Events.{order, receive, gather, deliveries_at, handed_in_split, transitional_places, furthest, deliver, split, merge}
@@ -27,6 +27,7 @@ use Rattle.cg_agree_lemmas.specs.RestsBehind.{handed-ids, split-to}
 use Rattle.cg_agree_lemmas.specs.TurnRows.{OfDelivery}
 use Rattle.cg_agree_lemmas.specs.TurnWorlds.{life_at}
 use Rattle.cg_agree_lemmas.specs.WorldTurns.{IsBehind, from-same, hand-behind, handed-behind}
+use Rattle.cg_agree_lemmas.specs.DiskSwaps.{Swaps, downgrade-swaps, recover_under-cases}
 use Rattle.cg_model.specs.Admission.{first_refusal}
 use Rattle.cg_model.specs.Chronicle.{Chronicle}
 use Rattle.cg_model.specs.FactsLists.{IsRising}
@@ -177,6 +178,19 @@ module _ (c : Chronicle) (w : World) (stands : StandsBeside c w) (p n : ℕ) (is
     at None shown = is
     at (Some s) shown = life s.life shown
 
+  swapped : (v : World) (q : ℕ) → Swaps w v q → AreShown p n v
+  swapped v q swaps = elim swaps [
+    | inl same ↦ subst (AreShown p n) (sym same) is
+    | inr other ↦
+        let new : NodeState = Down other.new other.green in
+        subst (AreShown p n) (sym other.world)
+        (set-shown (set_life w q new) q new (λ x. node_of-set w q new x) is.rising is.low is.group is.order
+        (λ apart. (
+        let shown : LifeShown p n (Down other.old other.green) = subst (NodeShown p n) other.node (is.nodes q apart) in
+        (subst (HoldsFine (IsActionShown p n)) (sym other.content) shown.0, shown.1)
+        )))
+  ]
+
   came-up-shown : (q : ℕ) → NodeIsDown (node_of (recover w q).world p) → AreShown p n (recover w q).world
   unfolding recover_disk
   came-up-shown q = at (node_of w q) (sound q) (is.nodes q) where
@@ -245,6 +259,9 @@ module _ (c : Chronicle) (w : World) (stands : StandsBeside c w) (p n : ℕ) (is
   happens-shown copied (Dirty q query) may admitted down = is
   happens-shown copied (Order q) may admitted down = grouped (order w.group q) (says-order (IsMessageShown p n) w.group q is.group)
   happens-shown copied (Recover q) may admitted down = came-up-shown q down
+  happens-shown copied (RecoverStopped q call fill) may admitted down =
+      recover_under-cases w q (record { call = call; fault = StopWith fill }) (λ go. NodeIsDown (node_of go.world p) → AreShown p n go.world) (λ v swaps down. swapped v q swaps) (came-up-shown q) down
+  happens-shown copied (Downgrade q) may admitted down = swapped (downgrade w q) q (downgrade-swaps w q)
   happens-shown copied (Show q) may admitted down = is
   happens-shown copied ShowOrder may admitted down = is
   happens-shown copied Gather may admitted down = grouped (gather w.group) (says-gather (IsMessageShown p n) w.group is.group)

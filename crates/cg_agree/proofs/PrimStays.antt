@@ -15,12 +15,12 @@ use Rattle.cg_group.specs.State.{home, delivered_to, unordered_of}
 use Rattle.cg_group.specs.Events.{regulars, order_all, furthest, transitional_places}
 use Rattle.cg_client.specs.Install.{weighted}
 use Rattle.cg_client.specs.Replica.{Replica}
-use Rattle.cg_disk_records.specs.Crash.{EventEnd, Runs, Crashes as EndsInCrash}
+use Rattle.cg_disk_records.specs.Crash.{EventEnd, Runs, Crashes as EndsInCrash, StopWith}
 use Rattle.cg_disk_records.specs.Commit.{commits}
 use Rattle.cg_schedule.specs.declared.event.Event.{Event}
-use Rattle.cg_schedule.specs.declared.event.Event.TheVariants.{Start, Split, Merge, Request, Weak, Dirty, Order, Recover, Show, ShowOrder, Gather, End, Receive, Deliver, Rounds, Stop, Fail, Join, Leave, Transfer}
+use Rattle.cg_schedule.specs.declared.event.Event.TheVariants.{Start, Split, Merge, Request, Weak, Dirty, Order, Recover, RecoverStopped, Downgrade, Show, ShowOrder, Gather, End, Receive, Deliver, Rounds, Stop, Fail, Join, Leave, Transfer}
 use Rattle.cg_model.specs.World.{NodeState, Up, Down, Node, TransferState, World, node_of, replica_of}
-use Rattle.cg_model.specs.Step.{snapshot_for}
+use Rattle.cg_model.specs.Step.{snapshot_for, is_struck}
 use Rattle.cg_model.specs.Turns.{Taken, stands, turns_of}
 use Rattle.cg_model.specs.Chronicle.{Attempt, Chronicle}
 use Rattle.cg_model.specs.Looks.{attempt_of, top_of, snapshot_of}
@@ -160,6 +160,8 @@ smalls-none w (Join p joiner weight) is = turns-none (λ q. Asks q (JoinKind joi
 smalls-none w (Leave p server) is = turns-none (λ q. Asks q (LeaveKind server) ∷ []) (λ q. (tt, tt)) w (Leave p server)
 smalls-none w (Stop p call fill) is = cond_both (call == 0) (Crashes p ∷ []) [] (Each StartsNone) (λ y. (tt, tt)) (λ n. tt)
 smalls-none w (Recover p) is = (tt, tt)
+smalls-none w (RecoverStopped p call fill) is = cond_both (is_struck w p (record { call = call; fault = StopWith fill })) [] (Recovers p ∷ []) (Each StartsNone) (λ y. tt) (λ n. (tt, tt))
+smalls-none w (Downgrade p) is = tt
 smalls-none w (Transfer p joiner pieces) is =
     Each-append StartsNone (copy_steps w p joiner) (join_steps w p joiner pieces)
     (cond_both (option_map_or (λ (s : TransferState). s.giver == p) (snapshot_of w joiner) false) [] (Copies p joiner ∷ []) (Each StartsNone) (λ y. tt) (λ n. (tt, tt)))
@@ -188,6 +190,8 @@ event-stays c w e none = stays-played (smalls_in w e) c (smalls-none w e (no-sta
   no-start (Leave p server) none = tt
   no-start (Stop p call fill) none = tt
   no-start (Recover p) none = tt
+  no-start (RecoverStopped p call fill) none = tt
+  no-start (Downgrade p) none = tt
   no-start (Transfer p joiner pieces) none = tt
   no-start (Weak p query) none = tt
   no-start (Dirty p query) none = tt

@@ -3,7 +3,7 @@ use Rattle.std.proofs.Common.{◌⊎◌, ◌≡◌, List, [], ◌∷◌, ◌++�
 use Rattle.std.proofs.lemmas.List.{append-nil, append_assoc}
 use Rattle.cg_base.specs.declared.weighted.Weighted.{Weighted}
 use Rattle.cg_schedule.specs.declared.event.Event.{Event}
-use Rattle.cg_schedule.specs.declared.event.Event.TheVariants.{Start, Split, Merge, Request, Weak, Dirty, Order, Recover, Show, ShowOrder, Gather, End, Receive, Deliver, Rounds, Stop, Fail, Join, Leave, Transfer}
+use Rattle.cg_schedule.specs.declared.event.Event.TheVariants.{Start, Split, Merge, Request, Weak, Dirty, Order, Recover, RecoverStopped, Downgrade, Show, ShowOrder, Gather, End, Receive, Deliver, Rounds, Stop, Fail, Join, Leave, Transfer}
 use Rattle.cg_model.specs.World.{World}
 use Rattle.cg_model.specs.Admission.{first_refusal}
 use Rattle.cg_model.specs.Show.{Moved}
@@ -59,6 +59,8 @@ module _ (c : Chronicle) (w : World) (before : List Weighted) (same : before ≡
   next (Dirty p query) may admitted = goes-on (Dirty p query) refl may may.0
   next (Order p) may admitted = goes-on (Order p) refl may may.0
   next (Recover p) may admitted = goes-on (Recover p) refl may may.0
+  next (RecoverStopped p call fill) may admitted = goes-on (RecoverStopped p call fill) refl may may.0
+  next (Downgrade p) may admitted = goes-on (Downgrade p) refl may may.0
   next (Show p) may admitted = goes-on (Show p) refl may may.0
   next ShowOrder may admitted = goes-on ShowOrder refl may may.0
   next Gather may admitted = goes-on Gather refl may may.0

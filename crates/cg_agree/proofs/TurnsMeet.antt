@@ -9,7 +9,7 @@ use Rattle.cg_group.specs.Events.{furthest, handed_in_split, deliveries_at, deli
 use Rattle.cg_group.specs.EachLaws.{Each-append, Each-weaker, Each-has}
 use Rattle.cg_model.specs.ReplicaStep.{Input, Deliveries, Asks as AsksOf}
 use Rattle.cg_schedule.specs.declared.event.Event.{Event}
-use Rattle.cg_schedule.specs.declared.event.Event.TheVariants.{Start, Split, Merge, Request, Weak, Dirty, Order, Recover, Show, ShowOrder, Gather, End, Receive, Deliver, Rounds, Stop, Fail, Join, Leave, Transfer}
+use Rattle.cg_schedule.specs.declared.event.Event.TheVariants.{Start, Split, Merge, Request, Weak, Dirty, Order, Recover, RecoverStopped, Downgrade, Show, ShowOrder, Gather, End, Receive, Deliver, Rounds, Stop, Fail, Join, Leave, Transfer}
 use Rattle.cg_model.specs.World.{World}
 use Rattle.cg_model.specs.Admission.{first_refusal}
 use Rattle.cg_model.specs.Chronicle.{Chronicle}
@@ -126,6 +126,8 @@ module _ (c : Chronicle) (w : World) (stands : StandsBeside c w) (meets : (small
   turns-meet (Dirty p query) may admitted = tt
   turns-meet (Order p) may admitted = tt
   turns-meet (Recover p) may admitted = tt
+  turns-meet (RecoverStopped p call fill) may admitted = tt
+  turns-meet (Downgrade p) may admitted = tt
   turns-meet (Show p) may admitted = tt
   turns-meet ShowOrder may admitted = tt
   turns-meet Gather may admitted = tt

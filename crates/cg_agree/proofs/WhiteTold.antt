@@ -11,7 +11,7 @@ use Rattle.cg_queue.specs.Queue.{names_of, green_count}
 use Rattle.cg_report.specs.declared.entry.Made.{Made}
 use Rattle.cg_report.specs.declared.line.UpLine.{UpLine}
 use Rattle.cg_schedule.specs.declared.event.Event.{Event}
-use Rattle.cg_schedule.specs.declared.event.Event.TheVariants.{Start, Split, Merge, Request, Weak, Dirty, Order, Recover, Show, ShowOrder, Gather, End, Receive, Deliver, Rounds, Stop, Fail, Join, Leave, Transfer}
+use Rattle.cg_schedule.specs.declared.event.Event.TheVariants.{Start, Split, Merge, Request, Weak, Dirty, Order, Recover, RecoverStopped, Downgrade, Show, ShowOrder, Gather, End, Receive, Deliver, Rounds, Stop, Fail, Join, Leave, Transfer}
 use Rattle.cg_client.specs.Replica.{Replica}
 use Rattle.cg_model.specs.World.{Node, World, no_world, running, has_begun, node_of, replica_of}
 use Rattle.cg_model.specs.Show.{Moved}
@@ -93,6 +93,8 @@ start-or-same c w (Weak p query) may = inr (event-stays c w (Weak p query) (host
 start-or-same c w (Dirty p query) may = inr (event-stays c w (Dirty p query) (hosted-not w (Dirty p query) may.0 may)).start
 start-or-same c w (Order p) may = inr (event-stays c w (Order p) (hosted-not w (Order p) may.0 may)).start
 start-or-same c w (Recover p) may = inr (event-stays c w (Recover p) (hosted-not w (Recover p) may.0 may)).start
+start-or-same c w (RecoverStopped p call fill) may = inr (event-stays c w (RecoverStopped p call fill) (hosted-not w (RecoverStopped p call fill) may.0 may)).start
+start-or-same c w (Downgrade p) may = inr (event-stays c w (Downgrade p) (hosted-not w (Downgrade p) may.0 may)).start
 start-or-same c w (Show p) may = inr (event-stays c w (Show p) (hosted-not w (Show p) may.0 may)).start
 start-or-same c w ShowOrder may = inr (event-stays c w ShowOrder (hosted-not w ShowOrder may.0 may)).start
 start-or-same c w Gather may = inr (event-stays c w Gather (hosted-not w Gather may.0 may)).start

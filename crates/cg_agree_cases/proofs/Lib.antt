@@ -16,6 +16,7 @@ mod AuditHeavyReplicaGoesOnAlone
 mod AuditIgnoredGap
 mod AuditLateInstall
 mod AuditLeaverIsToldAndRefusedAndWhiteActionsAreDiscarded
+mod AuditOlderDisks
 mod AuditOutsideSet
 mod AuditRedActionOfAMinorityIsOrderedAfterTheMerge
 mod AuditRetransmissionLostToASplit

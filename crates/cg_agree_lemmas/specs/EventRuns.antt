@@ -17,7 +17,7 @@ use Rattle.cg_client.specs.Replica.{Replica}
 use Rattle.cg_model.specs.ReplicaStep.{Input, Deliveries, Asks as AsksOf, replica_step}
 use Rattle.cg_disk_records.specs.Crash.{Disk, Runs, end_event}
 use Rattle.cg_schedule.specs.declared.event.Event.{Event}
-use Rattle.cg_schedule.specs.declared.event.Event.TheVariants.{Start, Split, Merge, Request, Weak, Dirty, Order, Recover, Show, ShowOrder, Gather, End, Receive, Deliver, Rounds, Stop, Fail, Join, Leave, Transfer}
+use Rattle.cg_schedule.specs.declared.event.Event.TheVariants.{Start, Split, Merge, Request, Weak, Dirty, Order, Recover, RecoverStopped, Downgrade, Show, ShowOrder, Gather, End, Receive, Deliver, Rounds, Stop, Fail, Join, Leave, Transfer}
 use Rattle.cg_model.specs.World.{Node, World, node_of}
 use Rattle.cg_model.specs.Admission.{first_refusal, unknown}
 use Rattle.cg_model.specs.Show.{StepInProgress}
@@ -192,6 +192,8 @@ module _ (c : Chronicle) (w : World) (stands : StandsBeside c w) (p : ℕ) (inpu
   event-runs (Dirty q query) may admitted of = absurd of
   event-runs (Order q) may admitted of = absurd of
   event-runs (Recover q) may admitted of = absurd of
+  event-runs (RecoverStopped q call fill) may admitted of = absurd of
+  event-runs (Downgrade q) may admitted of = absurd of
   event-runs (Show q) may admitted of = absurd of
   event-runs ShowOrder may admitted of = absurd of
   event-runs Gather may admitted of = absurd of

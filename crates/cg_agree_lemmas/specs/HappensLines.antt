@@ -1,5 +1,5 @@
 -- What an event does leaves the last printed lines; only the end of its step prints.
-use Rattle.std.proofs.Common.{◌≡◌, ℕ, zero, suc, ◌+◌, min, Bool, true, false, List, [], ◌∷◌, ◌++◌, fold, Option, Some, None, refl, ◌∙◌, if◌then◌else◌}
+use Rattle.std.proofs.Common.{◌≡◌, ℕ, zero, suc, ◌+◌, min, Bool, true, false, List, [], ◌∷◌, ◌++◌, fold, Option, Some, None, refl, ◌∙◌, if◌then◌else◌, ap, inl, inr}
 use Rattle.std.specs.Prelude.{◌==◌}
 use Rattle.std.specs.Option.{option_map_or}
 use Rattle.cg_base.specs.declared.weighted.Weighted.{Weighted}
@@ -13,11 +13,12 @@ use Rattle.cg_client.specs.Turn.{Turn}
 use Rattle.cg_model.specs.ReplicaStep.{Input, Deliveries, Asks as AsksOf, replica_step}
 use Rattle.cg_disk_records.specs.Crash.{FailOnce, StopWith, Strike, EventEnd, Runs, Crashes, end_event, new_disk}
 use Rattle.cg_schedule.specs.declared.event.Event.{Event}
-use Rattle.cg_schedule.specs.declared.event.Event.TheVariants.{Start, Split, Merge, Request, Weak, Dirty, Order, Recover, Show, ShowOrder, Gather, End, Receive, Deliver, Rounds, Stop, Fail, Join, Leave, Transfer}
+use Rattle.cg_schedule.specs.declared.event.Event.TheVariants.{Start, Split, Merge, Request, Weak, Dirty, Order, Recover, RecoverStopped, Downgrade, Show, ShowOrder, Gather, End, Receive, Deliver, Rounds, Stop, Fail, Join, Leave, Transfer}
 use Rattle.cg_model.specs.World.{NodeState, Up, Down, Node, TransferState, World, node_of, replica_of, bring_up}
 use Rattle.cg_model.specs.Show.{StepInProgress}
-use Rattle.cg_model.specs.Step.{quietly, after_event, hand_to, hand, hand_over, name_also, begin_replica, arm_at, crash_at, recover_from, recover, joiner_replica, snapshot_for, without_snapshot, with_pieces, take_pieces, transfer, happens}
+use Rattle.cg_model.specs.Step.{quietly, after_event, hand_to, hand, hand_over, name_also, begin_replica, arm_at, crash_at, recover_from, recover, joiner_replica, snapshot_for, without_snapshot, with_pieces, take_pieces, transfer, happens, downgrade}
 use Rattle.cg_client.specs.Joined.{piece_count}
+use Rattle.cg_agree_lemmas.specs.DiskSwaps.{Swaps, downgrade-swaps, recover_under-cases}
 
 hand-lines : (go : StepInProgress) (p : ℕ) (input : Input) → (hand go p input).world.lines ≡ go.world.lines
 unfolding hand
@@ -68,6 +69,12 @@ recovered-lines w p = at (node_of w p) where
   at None = refl
   at (Some s) = life s.life
 
+swapped-lines : (w v : World) (p : ℕ) → Swaps w v p → v.lines ≡ w.lines
+swapped-lines w v p is = elim is [
+  | inl same ↦ ap (λ (x : World). x.lines) same
+  | inr other ↦ ap (λ (x : World). x.lines) other.world
+]
+
 transferred-lines : (w : World) (p joiner pieces : ℕ) → (transfer w p joiner pieces).world.lines ≡ w.lines
 transferred-lines w p joiner pieces = at (replica_of w p) where
   one_of : (b : Bool) (x y : World) → x.lines ≡ w.lines → y.lines ≡ w.lines → (if b then x else y).lines ≡ w.lines
@@ -94,6 +101,9 @@ happens-lines w (Weak p query) = refl
 happens-lines w (Dirty p query) = refl
 happens-lines w (Order p) = refl
 happens-lines w (Recover p) = recovered-lines w p
+happens-lines w (RecoverStopped p call fill) =
+    recover_under-cases w p (record { call = call; fault = StopWith fill }) (λ go. go.world.lines ≡ w.lines) (λ v. swapped-lines w v p) (recovered-lines w p)
+happens-lines w (Downgrade p) = swapped-lines w (downgrade w p) p (downgrade-swaps w p)
 happens-lines w (Show p) = refl
 happens-lines w ShowOrder = refl
 happens-lines w Gather = refl

@@ -13,13 +13,14 @@ use Rattle.cg_client.specs.Replica.{Replica}
 use Rattle.cg_client.specs.Turn.{Turn}
 use Rattle.cg_client.specs.Queries.{weak_answer, dirty_answer}
 use Rattle.cg_model.specs.ReplicaStep.{Input, Deliveries, Asks as AsksOf, replica_step}
-use Rattle.cg_disk_records.specs.Crash.{EventEnd, Runs, Crashes, end_event}
+use Rattle.cg_disk_records.specs.Crash.{EventEnd, Runs, Crashes, end_event, StopWith}
 use Rattle.cg_schedule.specs.declared.event.Event.{Event}
-use Rattle.cg_schedule.specs.declared.event.Event.TheVariants.{Start, Split, Merge, Request, Weak, Dirty, Order, Recover, Show, ShowOrder, Gather, End, Receive, Deliver, Rounds, Stop, Fail, Join, Leave, Transfer}
+use Rattle.cg_schedule.specs.declared.event.Event.TheVariants.{Start, Split, Merge, Request, Weak, Dirty, Order, Recover, RecoverStopped, Downgrade, Show, ShowOrder, Gather, End, Receive, Deliver, Rounds, Stop, Fail, Join, Leave, Transfer}
 use Rattle.cg_model.specs.World.{NodeState, Up, Down, Node, World, node_of, replica_of}
 use Rattle.cg_model.specs.Show.{StepInProgress, ended}
 use Rattle.cg_model.specs.Step.{quietly, after_event, hand_to, hand, hand_over, name_also, recover_from, recover, snapshot_for, take_pieces, transfer, shown_of, happens, world_step}
 use Rattle.cg_client.specs.Joined.{piece_count}
+use Rattle.cg_agree_lemmas.specs.DiskSwaps.{recover_under-cases}
 
 abbrev pub pieces_by : World → ℕ → ℕ → ℕ → Replica → List Shown
 pieces_by w p joiner pieces r = let s = snapshot_for w p joiner r in Pieces s.joiner (min (piece_count s.content) (s.taken + pieces)) (piece_count s.content) ∷ []
@@ -79,6 +80,8 @@ step-shows w (Weak p query) = refl
 step-shows w (Dirty p query) = refl
 step-shows w (Order p) = refl
 step-shows w (Recover p) = recovered-shown w p
+step-shows w (RecoverStopped p call fill) = recover_under-cases w p (record { call = call; fault = StopWith fill }) (λ go. go.shown ≡ []) (λ v is. refl) (recovered-shown w p)
+step-shows w (Downgrade p) = refl
 step-shows w (Show p) = refl
 step-shows w ShowOrder = refl
 step-shows w Gather = refl
@@ -130,6 +133,8 @@ each-shown w (Merge set) = tt
 each-shown w (Request p cmds query) = tt
 each-shown w (Order p) = tt
 each-shown w (Recover p) = tt
+each-shown w (RecoverStopped p call fill) = tt
+each-shown w (Downgrade p) = tt
 each-shown w Gather = tt
 each-shown w End = tt
 each-shown w (Receive p place) = tt

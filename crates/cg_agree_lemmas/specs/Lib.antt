@@ -54,8 +54,10 @@ pub mod CountedKept
 pub mod SmallWorlds
 pub mod Standings
 pub mod NodeFacts
+pub mod DiskSwaps
 pub mod MadeQuietly
 pub mod MadeAlone
+pub mod MadeOlder
 pub mod MadeTransfer
 pub mod GroupChanges
 pub mod DiskEnds

@@ -16,7 +16,7 @@ use Rattle.cg_disk_records.specs.Stored.{stored_of, whiten}
 use Rattle.cg_model.specs.ReplicaStep.{Input, Deliveries, replica_step}
 use Rattle.cg_disk_records.specs.Crash.{Disk, Strike, Runs, Crashes, whitened, end_event, at_rest, new_disk, recovered, disk_recovered}
 use Rattle.cg_model.specs.FactsBooks.{LifeMade, MadeFits, NodeMade}
-use Rattle.cg_model.specs.World.{NodeState, Up, Down, Node, World, node_of, bring_up}
+use Rattle.cg_model.specs.World.{NodeState, Up, Down, Node, World, node_of, bring_up, set_life}
 use Rattle.cg_model.specs.Show.{StepInProgress, unshown}
 use Rattle.cg_model.specs.Step.{after_event, hand_to, hand, hand_over, begin_replica, name_also, arm_at, crash_at, recover_from, joiner_replica}
 use Rattle.cg_model.specs.FactsLists.{IsRising}
@@ -29,6 +29,7 @@ use Rattle.cg_agree_lemmas.specs.CreatedKept.{created-first}
 use Rattle.cg_agree_lemmas.specs.WorldTurns.{hand-behind}
 use Rattle.cg_agree_lemmas.specs.MadeGrows.{IsShown, step-shown}
 use Rattle.cg_agree_lemmas.specs.MadeRecovered.{recovery-shown}
+use Rattle.cg_agree_lemmas.specs.DiskSwaps.{Swaps}
 use Rattle.cg_disk_records.specs.CutRaiseLaws.{rising-behind}
 
 -- what a replica holds is what some greens make of it
@@ -186,6 +187,17 @@ module _ (start : List Weighted) (w : World) (p : ℕ) (sound : NodeSound start 
       fits-set w (recover_from w (Down disk green)).world p (Up r (disk_recovered disk))
       (λ q. node_of-set w r.held.id (Up r (disk_recovered disk)) q ∙ ap (λ n. cond (n == q) (Some (record { id = n; life = Up r (disk_recovered disk) })) (node_of w q)) again.id)
       (rising-behind w.made (names_of (unshown w.made r.held)) fits.rising) again.counted again.others fits
+
+pub swapped-fits : (w v : World) (p : ℕ) → MadeFits w → Swaps w v p → MadeFits v
+swapped-fits w v p fits is = elim is [
+  | inl same ↦ subst MadeFits (sym same) fits
+  | inr other ↦
+      let new : NodeState = Down other.new other.green in
+      let made : LifeMade (index_in w.made p) p (Down other.old other.green) = subst (NodeMade (index_in w.made p) p) other.node (fits.nodes p) in
+      subst MadeFits (sym other.world)
+      (fits-set w (set_life w p new) p new (λ q. node_of-set w p new q) fits.rising
+      (subst (λ (h : Held). (index_in w.made p ≤ created h) × (index_in h.queue.green_cut p ≤ index_in w.made p)) (sym other.content) made) (λ q apart. refl) fits)
+]
 
 -- a joiner of which nothing is known to be made
 pub joined-fits : (w others : World) (joiner : ℕ) (content : Held) → others.nodes ≡ w.nodes → others.made ≡ w.made → index_in w.made joiner ≡ 0 → index_in content.queue.green_cut joiner ≡ 0 → MadeFits w →

@@ -2,14 +2,15 @@
 use Rattle.cg_model.specs.ReplicaStep.{Input, Deliveries, Asks as AsksOf, replica_step}
 use Rattle.cg_action.specs.declared.action.Kind.TheVariants.{Update, Join as JoinKind, Leave as LeaveKind}
 use Rattle.cg_schedule.specs.declared.event.Event.{Event}
-use Rattle.cg_schedule.specs.declared.event.Event.TheVariants.{Start, Split, Merge, Request, Weak, Dirty, Order, Recover, Show, ShowOrder, Gather, End, Receive, Deliver, Rounds, Stop, Fail, Join, Leave, Transfer}
-use Rattle.cg_model.specs.Step.{quietly, after_event, hand_to, hand, hand_over, name_also, begin_replica, arm_at, crash_at, recover_from, joiner_replica, snapshot_for, without_snapshot, with_pieces, take_pieces, transfer, happens, world_step}
+use Rattle.cg_schedule.specs.declared.event.Event.TheVariants.{Start, Split, Merge, Request, Weak, Dirty, Order, Recover, RecoverStopped, Downgrade, Show, ShowOrder, Gather, End, Receive, Deliver, Rounds, Stop, Fail, Join, Leave, Transfer}
+use Rattle.cg_model.specs.Step.{quietly, after_event, hand_to, hand, hand_over, name_also, begin_replica, arm_at, crash_at, recover_from, joiner_replica, snapshot_for, without_snapshot, with_pieces, take_pieces, transfer, happens, world_step, downgrade}
 use Rattle.cg_model.specs.World.{NodeState, Up, Down, Node, TransferState, World, node_of, replica_of, bring_up}
 use Rattle.std.proofs.Common.{◌≡◌, ◌++◌, ◌∷◌, ◌≤◌, ◌&&◌, ◌+◌, Bool, IfSome, List, None, Option, Some, arith, eq-eqb, filter, find, fold, inl, inr, length, map, min, not, refl, subst, suc, sym, true, zero, ℕ, []}
 use Rattle.std.proofs.lemmas.Bool.{cases_Bool, cond-false, cond-true, cond_both}
 use Rattle.std.specs.Option.{option_map_or}
 use Rattle.std.specs.Prelude.{◌==◌}
 use Rattle.cg_agree_lemmas.specs.MadeTransfer.{none-filtered, nothing-of}
+use Rattle.cg_agree_lemmas.specs.DiskSwaps.{Swaps, downgrade-swaps, recover_under-cases}
 use Rattle.cg_model.specs.Show.{StepInProgress, ended}
 use Rattle.cg_base.specs.Weights.{ids}
 use Rattle.cg_base.specs.declared.weighted.Weighted.{Weighted}
@@ -111,6 +112,12 @@ module _ (Holds : ℕ → Held → Type 0) where
       at None = is
       at (Some s) = life s.life
 
+    copies-swapped : (v : World) (q : ℕ) → Swaps w v q → OfSnapshots v
+    copies-swapped v q swaps = elim swaps [
+      | inl same ↦ subst OfSnapshots (sym same) is
+      | inr other ↦ subst OfSnapshots (sym other.world) is
+    ]
+
     copies-pieces : (s : TransferState) (taken : ℕ) → Holds s.giver s.content → OfSnapshots (with_pieces w s taken)
     copies-pieces s taken here =
         let others = without_snapshot w s.joiner in
@@ -146,6 +153,8 @@ module _ (Holds : ℕ → Held → Type 0) where
       copies-happen (Dirty q query) = is
       copies-happen (Order q) = is
       copies-happen (Recover q) = copies-recovered q
+      copies-happen (RecoverStopped q call fill) = recover_under-cases w q (record { call = call; fault = StopWith fill }) (λ go. OfSnapshots go.world) (λ v. copies-swapped v q) (copies-recovered q)
+      copies-happen (Downgrade q) = copies-swapped (downgrade w q) q (downgrade-swaps w q)
       copies-happen (Show q) = is
       copies-happen ShowOrder = is
       copies-happen Gather = is

@@ -1,5 +1,5 @@
 -- The order lines of a run are the order of the world that it leads to.
-use Rattle.std.proofs.Common.{◌≡◌, ℕ, zero, suc, List, [], ◌∷◌, ◌++◌, Option, Some, None, refl, sym, ap, subst, ◌∙◌, arith, length-append, map, fold}
+use Rattle.std.proofs.Common.{◌≡◌, ℕ, zero, suc, List, [], ◌∷◌, ◌++◌, Option, Some, None, refl, sym, ap, subst, ◌∙◌, arith, length-append, map, fold, inl, inr}
 use Rattle.std.specs.Prelude.{◌+◌, ◌==◌, min, length, Bool, true, false, if◌then◌else◌}
 use Rattle.std.specs.Option.{option_map_or}
 use Rattle.std.proofs.lemmas.List.{map-append, append-nil, length-map}
@@ -14,17 +14,18 @@ use Rattle.cg_group.specs.Events.{HandedOut, split, merge, deliver}
 use Rattle.cg_client.specs.Replica.{Replica}
 use Rattle.cg_client.specs.Turn.{Turn}
 use Rattle.cg_model.specs.ReplicaStep.{Input, Deliveries, Asks, replica_step}
-use Rattle.cg_disk_records.specs.Crash.{FailOnce, Strike, EventEnd, Runs, Crashes, end_event, recovered}
+use Rattle.cg_disk_records.specs.Crash.{FailOnce, Strike, EventEnd, Runs, Crashes, end_event, recovered, StopWith}
 use Rattle.cg_schedule.specs.declared.event.Event.{Event}
-use Rattle.cg_schedule.specs.declared.event.Event.TheVariants.{Start, Split, Merge, Request, Weak, Dirty, Order, Recover, Show, ShowOrder, Gather, End, Receive, Deliver, Rounds, Stop, Fail, Join, Leave, Transfer}
+use Rattle.cg_schedule.specs.declared.event.Event.TheVariants.{Start, Split, Merge, Request, Weak, Dirty, Order, Recover, RecoverStopped, Downgrade, Show, ShowOrder, Gather, End, Receive, Deliver, Rounds, Stop, Fail, Join, Leave, Transfer}
 use Rattle.cg_queue.specs.Queue.{green_count}
 use Rattle.cg_report.specs.declared.entry.Placed.{Placed}
 use Rattle.cg_model.specs.World.{NodeState, Up, Down, Node, TransferState, World, node_of, replica_of}
 use Rattle.cg_model.specs.Show.{StepInProgress, Moved, placed_from, beyond, ended}
-use Rattle.cg_model.specs.Step.{quietly, after_event, hand_to, hand, hand_over, hand_out, name_also, begin_replica, arm_at, arm, crash_at, stop, recover_from, recover, take_pieces, transfer, snapshot_for, with_pieces, happens, world_step}
+use Rattle.cg_model.specs.Step.{quietly, after_event, hand_to, hand, hand_over, hand_out, name_also, begin_replica, arm_at, arm, crash_at, stop, recover_from, recover, take_pieces, transfer, snapshot_for, with_pieces, happens, world_step, downgrade}
 use Rattle.cg_model.specs.Run.{Step, IsRunFrom, world_after}
 use Rattle.cg_model.specs.Shown.{order_of, order_lines}
 use Rattle.cg_client.specs.Joined.{piece_count}
+use Rattle.cg_agree_lemmas.specs.DiskSwaps.{Swaps, downgrade-swaps, recover_under-cases}
 
 -- the order is that of a world and the names of these order lines, whose places go on behind it
 pub record TellsOrder (w : World) (order : List ActionId) (orders : List Placed) : Type 0 where
@@ -153,6 +154,12 @@ recovered_order w p = by_node (node_of w p) where
   by_node None = still w
   by_node (Some s) = each s.life
 
+swapped_order : (w v : World) (p : ℕ) → Swaps w v p → v.order ≡ w.order
+swapped_order w v p is = elim is [
+  | inl unchanged ↦ ap (λ (x : World). x.order) unchanged
+  | inr other ↦ ap (λ (x : World). x.order) other.world
+]
+
 one_of : (b : Bool) (w x y : World) → x.order ≡ w.order → y.order ≡ w.order → (if b then x else y).order ≡ w.order
 one_of true w x y e f = e
 one_of false w x y e f = f
@@ -180,6 +187,9 @@ happens_order w (Weak p query) = still w
 happens_order w (Dirty p query) = still w
 happens_order w (Order p) = still w
 happens_order w (Recover p) = recovered_order w p
+happens_order w (RecoverStopped p call fill) =
+    recover_under-cases w p (record { call = call; fault = StopWith fill }) (Keeps w) (λ v is. same w v (swapped_order w v p is)) (recovered_order w p)
+happens_order w (Downgrade p) = same w (downgrade w p) (swapped_order w (downgrade w p) p (downgrade-swaps w p))
 happens_order w (Show p) = still w
 happens_order w ShowOrder = still w
 happens_order w Gather = still w

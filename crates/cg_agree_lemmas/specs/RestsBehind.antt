@@ -19,12 +19,12 @@ use Rattle.cg_client.specs.Replica.{Held, Replica, fresh}
 use Rattle.cg_model.specs.ReplicaStep.{Input, Deliveries, Asks as AsksOf}
 use Rattle.cg_disk_records.specs.Crash.{FailOnce, StopWith, Strike, at_rest, new_disk, recovered, disk_recovered}
 use Rattle.cg_schedule.specs.declared.event.Event.{Event}
-use Rattle.cg_schedule.specs.declared.event.Event.TheVariants.{Start, Split, Merge, Request, Weak, Dirty, Order, Recover, Show, ShowOrder, Gather, End, Receive, Deliver, Rounds, Stop, Fail, Join, Leave, Transfer}
+use Rattle.cg_schedule.specs.declared.event.Event.TheVariants.{Start, Split, Merge, Request, Weak, Dirty, Order, Recover, RecoverStopped, Downgrade, Show, ShowOrder, Gather, End, Receive, Deliver, Rounds, Stop, Fail, Join, Leave, Transfer}
 use Rattle.cg_model.specs.World.{NodeState, Up, Down, Node, World, running, node_of, replica_of, set_life, bring_up, TransferState}
 use Rattle.cg_model.specs.Show.{ended}
 use Rattle.cg_model.specs.Run.{MayStand}
 use Rattle.cg_model.specs.Levels.{is_record_of}
-use Rattle.cg_model.specs.Step.{quietly, hand_out, ask, name_also, begin_replica, arm_at, arm, crash_at, recover_from, recover, joiner_replica, snapshot_for, without_snapshot, with_pieces, take_pieces, transfer, happens, world_step}
+use Rattle.cg_model.specs.Step.{quietly, hand_out, ask, name_also, begin_replica, arm_at, arm, crash_at, recover_from, recover, joiner_replica, snapshot_for, without_snapshot, with_pieces, take_pieces, transfer, happens, world_step, downgrade}
 use Rattle.cg_model.specs.FactsLists.{IsRising}
 use Rattle.cg_agree_lemmas.specs.ChronicleFacts.{node_of-set}
 use Rattle.cg_agree_lemmas.specs.HeldMarks.{IsOneself}
@@ -33,6 +33,7 @@ use Rattle.cg_agree_lemmas.specs.DiskAhead.{OwnRuns}
 use Rattle.cg_agree_lemmas.specs.AttemptNew.{HasNoRecordYet, IsNewConf, IsNewIn}
 use Rattle.cg_agree_lemmas.specs.LivesRest.{LifeRests, NodeRests, turn-rests, recovered-rests, begun-rests}
 use Rattle.cg_agree_lemmas.specs.WorldTurns.{IsBehind, hand-behind, from-same, handed-behind}
+use Rattle.cg_agree_lemmas.specs.DiskSwaps.{Swaps, downgrade-swaps, recover_under-cases}
 use Rattle.cg_client.specs.Joined.{piece_count}
 
 -- there are greens of which a replica holds what they make
@@ -165,6 +166,12 @@ module _ (start : List Weighted) (w : World) (rests : (q : ℕ) → RestsAt w q)
     life (Up r disk) is = rests-set w p (Up r (record disk { armed = Some strike })) q is (rests q)
     life (Down disk green) is = rests q
 
+  swapped : (v : World) (p q : ℕ) → Swaps w v p → RestsAt v q
+  swapped v p q is = elim is [
+    | inl same ↦ subst (λ (x : World). RestsAt x q) (sym same) (rests q)
+    | inr other ↦ subst (λ (x : World). RestsAt x q) (sym other.world) (rests-set w p (Down other.new other.green) q tt (rests q))
+  ]
+
   joined-rests : (s : TransferState) (taken q : ℕ) → RestsAt (with_pieces w s taken) q
   joined-rests s taken q =
       let others = without_snapshot w s.joiner in
@@ -211,6 +218,8 @@ module _ (start : List Weighted) (w : World) (rests : (q : ℕ) → RestsAt w q)
   event-rests (Dirty p query) may q = rests q
   event-rests (Order p) may q = rests q
   event-rests (Recover p) may q = came-up p q
+  event-rests (RecoverStopped p call fill) may q = recover_under-cases w p (record { call = call; fault = StopWith fill }) (λ go. RestsAt go.world q) (λ v. swapped v p q) (came-up p q)
+  event-rests (Downgrade p) may q = swapped (downgrade w p) p q (downgrade-swaps w p)
   event-rests (Show p) may q = rests q
   event-rests ShowOrder may q = rests q
   event-rests Gather may q = rests q

@@ -1,5 +1,5 @@
 -- A replica that an event doesn't touch keeps its node, and stands in the group as it did.
-use Rattle.std.proofs.Common.{◌≡◌, ℕ, zero, suc, ◌+◌, min, false, ◌&&◌, List, [], ◌∷◌, ◌++◌, fold, map, find, Option, Some, None, IfSome, option_map, refl, ap, ◌∙◌, eqb-true}
+use Rattle.std.proofs.Common.{◌≡◌, ℕ, zero, suc, ◌+◌, min, false, ◌&&◌, List, [], ◌∷◌, ◌++◌, fold, map, find, Option, Some, None, IfSome, option_map, refl, ap, ◌∙◌, eqb-true, sym, subst, inl, inr}
 use Rattle.std.specs.Prelude.{◌==◌}
 use Rattle.std.specs.Option.{option_map_or}
 use Rattle.std.proofs.lemmas.Bool.{cond-false, cond_both, or_parts, and_parts}
@@ -18,16 +18,17 @@ use Rattle.cg_client.specs.Turn.{Turn}
 use Rattle.cg_model.specs.ReplicaStep.{Input, Deliveries, Asks as AsksOf, replica_step}
 use Rattle.cg_disk_records.specs.Crash.{Disk, FailOnce, StopWith, Strike, EventEnd, Runs, Crashes, end_event, new_disk, recovered, disk_recovered}
 use Rattle.cg_schedule.specs.declared.event.Event.{Event}
-use Rattle.cg_schedule.specs.declared.event.Event.TheVariants.{Start, Split, Merge, Request, Weak, Dirty, Order, Recover, Show, ShowOrder, Gather, End, Receive, Deliver, Rounds, Stop, Fail, Join, Leave, Transfer}
+use Rattle.cg_schedule.specs.declared.event.Event.TheVariants.{Start, Split, Merge, Request, Weak, Dirty, Order, Recover, RecoverStopped, Downgrade, Show, ShowOrder, Gather, End, Receive, Deliver, Rounds, Stop, Fail, Join, Leave, Transfer}
 use Rattle.cg_model.specs.World.{NodeState, Up, Down, Node, TransferState, World, node_of, replica_of, set_life, bring_up}
 use Rattle.cg_model.specs.Show.{StepInProgress}
-use Rattle.cg_model.specs.Step.{quietly, after_event, hand_to, hand, hand_over, name_also, begin_replica, arm_at, arm, crash_at, recover_from, recover, joiner_replica, snapshot_for, without_snapshot, with_pieces, take_pieces, transfer, happens}
+use Rattle.cg_model.specs.Step.{quietly, after_event, hand_to, hand, hand_over, name_also, begin_replica, arm_at, arm, crash_at, recover_from, recover, joiner_replica, snapshot_for, without_snapshot, with_pieces, take_pieces, transfer, happens, downgrade}
 use Rattle.cg_model.specs.Looks.{on_disk, disk_held}
 use Rattle.cg_model.specs.PhaseLaws.{Group, where_is, sent-place, order-place, receive-place, gather-place, deliver-place, up-place, down-place, split-other, next_conf, merge-place}
 use Rattle.cg_model.specs.Touched.{touched}
 use Rattle.cg_agree_lemmas.specs.ChronicleFacts.{node_of-set}
 use Rattle.cg_agree_lemmas.specs.HandSays.{find-holds}
 use Rattle.cg_agree_lemmas.specs.HeldCommit.{recovered-id}
+use Rattle.cg_agree_lemmas.specs.DiskSwaps.{Swaps, downgrade-swaps, recover_under-cases}
 use Rattle.cg_client.specs.Joined.{piece_count}
 
 -- the snapshot of which pieces are taken is one of this joiner
@@ -130,6 +131,12 @@ module _ (q : ℕ) where
     at None named = stays w
     at (Some s) named = life s.life named
 
+  swapped-stays : (w v : World) (p : ℕ) → (p == q) ≡ false → Swaps w v p → Stays w v
+  swapped-stays w v p apart is = elim is [
+    | inl same ↦ subst (Stays w) (sym same) (stays w)
+    | inr other ↦ subst (Stays w) (sym other.world) (record { node = other-node w p (Down other.new other.green) apart; place = refl })
+  ]
+
   -- ---- snapshots
 
   pieces-stay : (w : World) (s : TransferState) (n : ℕ) → (s.joiner == q) ≡ false → Stays w (with_pieces w s n)
@@ -190,6 +197,9 @@ module _ (q : ℕ) where
   happens-stays w (Dirty p query) own out = stays w
   happens-stays w (Order p) own out = grouped-stays w (order w.group p) (order-place w.group p q)
   happens-stays w (Recover p) own out = recovered-stays w p (own p) (only p out)
+  happens-stays w (RecoverStopped p call fill) own out =
+      recover_under-cases w p (record { call = call; fault = StopWith fill }) (λ go. Stays w go.world) (λ v. swapped-stays w v p (only p out)) (recovered-stays w p (own p) (only p out))
+  happens-stays w (Downgrade p) own out = swapped-stays w (downgrade w p) p (only p out) (downgrade-swaps w p)
   happens-stays w (Show p) own out = stays w
   happens-stays w ShowOrder own out = stays w
   happens-stays w Gather own out = grouped-stays w (gather w.group) (gather-place w.group q)

@@ -20,16 +20,17 @@ use Rattle.cg_client.specs.Turn.{Turn}
 use Rattle.cg_disk_records.specs.Crash.{EventEnd, FailOnce, StopWith, Strike, Runs, Crashes, end_event, new_disk}
 use Rattle.cg_model.specs.ReplicaStep.{Input, Asks, replica_step}
 use Rattle.cg_schedule.specs.declared.event.Event.{Event}
-use Rattle.cg_schedule.specs.declared.event.Event.TheVariants.{Start, Split, Merge, Request, Weak, Dirty, Order, Recover, Show, ShowOrder, Gather, End, Receive, Deliver, Rounds, Stop, Fail, Join, Leave, Transfer}
+use Rattle.cg_schedule.specs.declared.event.Event.TheVariants.{Start, Split, Merge, Request, Weak, Dirty, Order, Recover, RecoverStopped, Downgrade, Show, ShowOrder, Gather, End, Receive, Deliver, Rounds, Stop, Fail, Join, Leave, Transfer}
 use Rattle.cg_model.specs.World.{NodeState, Up, Down, Node, TransferState, World, no_world, node_of, replica_of, has_begun, bring_up}
-use Rattle.cg_model.specs.Admission.{first_refusal, unknown, has_left, takes_part, never_named}
+use Rattle.cg_model.specs.Admission.{first_refusal, unknown, has_left, takes_part, never_named, cannot_rise}
 use Rattle.cg_model.specs.Show.{StepInProgress, ended}
-use Rattle.cg_model.specs.Step.{after_event, arm, arm_at, begin_replica, crash_at, hand, hand_over, hand_to, happens, joiner_replica, name_also, quietly, recover, recover_from, snapshot_for, take_pieces, transfer, with_pieces, without_snapshot, world_step}
+use Rattle.cg_model.specs.Step.{after_event, arm, arm_at, begin_replica, crash_at, hand, hand_over, hand_to, happens, joiner_replica, name_also, quietly, recover, recover_from, snapshot_for, take_pieces, transfer, with_pieces, without_snapshot, world_step, downgrade}
 use Rattle.cg_model.specs.Run.{MayStand}
 use Rattle.cg_model.specs.Looks.{disk_held}
 use Rattle.cg_model.specs.Touched.{touched}
 use Rattle.cg_agree_lemmas.specs.TouchedNodes.{happens-stays}
 use Rattle.cg_agree_lemmas.specs.UnorderedKept.{first-none, refused-not}
+use Rattle.cg_agree_lemmas.specs.DiskSwaps.{Swaps, downgrade-swaps, recover_under-cases}
 
 pub record AreIds (w : World) : Type 0 where
   pub begun : (p : ℕ) → has_begun w p ≡ true → IsId p
@@ -79,6 +80,8 @@ module _ (w : World) (are : AreIds w) (q : ℕ) where
   touched-id (Dirty p query) may admitted there = nobody there
   touched-id (Order p) may admitted there = nobody there
   touched-id (Recover p) may admitted there = known p _ (ap is_none admitted) there
+  touched-id (RecoverStopped p call fill) may admitted there = known p _ (ap is_none admitted) there
+  touched-id (Downgrade p) may admitted there = known p _ (ap is_none (first-none (cannot_rise w p) _ (ap is_none admitted)).0) there
   touched-id (Show p) may admitted there = nobody there
   touched-id ShowOrder may admitted there = nobody there
   touched-id Gather may admitted there = nobody there
@@ -143,6 +146,12 @@ recover-named w p = at (node_of w p) where
   at None = refl
   at (Some s) = life s.life
 
+swapped-named : (w v : World) (p : ℕ) → Swaps w v p → v.named ≡ w.named
+swapped-named w v p is = elim is [
+  | inl same ↦ ap (λ (x : World). x.named) same
+  | inr other ↦ ap (λ (x : World). x.named) other.world
+]
+
 pieces-named : (w : World) (s : TransferState) (n : ℕ) → (with_pieces w s n).named ≡ w.named
 pieces-named w s n =
     let others = without_snapshot w s.joiner in
@@ -188,6 +197,9 @@ module _ (w : World) (are : AreIds w) (q : ℕ) where
   named-id (Dirty p query) may there = are.named q there
   named-id (Order p) may there = are.named q there
   named-id (Recover p) may there = as-before _ (recover-named w p) there
+  named-id (RecoverStopped p call fill) may there =
+      as-before _ (recover_under-cases w p (record { call = call; fault = StopWith fill }) (λ go. go.world.named ≡ w.named) (λ v. swapped-named w v p) (recover-named w p)) there
+  named-id (Downgrade p) may there = as-before _ (swapped-named w (downgrade w p) p (downgrade-swaps w p)) there
   named-id (Show p) may there = are.named q there
   named-id ShowOrder may there = are.named q there
   named-id Gather may there = are.named q there

@@ -19,9 +19,9 @@ use Rattle.cg_report.specs.declared.entry.Reply.{Reply}
 use Rattle.cg_client.specs.Replica.{Replica}
 use Rattle.cg_client.specs.Turn.{Turn}
 use Rattle.cg_model.specs.ReplicaStep.{Input, Deliveries, Asks as AsksOf, replica_step}
-use Rattle.cg_disk_records.specs.Crash.{Disk, EventEnd, Runs, Crashes, end_event}
+use Rattle.cg_disk_records.specs.Crash.{Disk, EventEnd, Runs, Crashes, end_event, StopWith}
 use Rattle.cg_schedule.specs.declared.event.Event.{Event}
-use Rattle.cg_schedule.specs.declared.event.Event.TheVariants.{Start, Split, Merge, Request, Weak, Dirty, Order, Recover, Show, ShowOrder, Gather, End, Receive, Deliver, Rounds, Stop, Fail, Join, Leave, Transfer}
+use Rattle.cg_schedule.specs.declared.event.Event.TheVariants.{Start, Split, Merge, Request, Weak, Dirty, Order, Recover, RecoverStopped, Downgrade, Show, ShowOrder, Gather, End, Receive, Deliver, Rounds, Stop, Fail, Join, Leave, Transfer}
 use Rattle.cg_model.specs.World.{NodeState, Up, Down, Node, World, has_begun, node_of, replica_of, running}
 use Rattle.cg_model.specs.Admission.{first_refusal}
 use Rattle.cg_model.specs.Show.{Answered, StepInProgress, answered_from, with_answered, ended}
@@ -47,6 +47,7 @@ use Rattle.cg_agree_lemmas.specs.TurnWorlds.{up_node, life_at}
 use Rattle.cg_agree_lemmas.specs.WorldTurns.{EndsSo, hand-behind, alone-ends, handed-ends}
 use Rattle.cg_agree_lemmas.specs.EventRuns.{event-runs}
 use Rattle.cg_agree_lemmas.specs.GreensBehind.{greens-through}
+use Rattle.cg_agree_lemmas.specs.DiskSwaps.{recover_under-cases}
 
 -- ---- places
 
@@ -316,6 +317,10 @@ replies-fine c w (Weak q query) stands may admitted behind differ = (tt, tt)
 replies-fine c w (Dirty q query) stands may admitted behind differ = (tt, tt)
 replies-fine c w (Order q) stands may admitted behind differ = (tt, tt)
 replies-fine c w (Recover q) stands may admitted behind differ = subst (Fine (happens w (Recover q)).world.order differ) (sym (recovered-none w q)) (tt, tt)
+replies-fine c w (RecoverStopped q call fill) stands may admitted behind differ =
+    let none = recover_under-cases w q (record { call = call; fault = StopWith fill }) (λ go. go.replies ≡ []) (λ v is. refl) (recovered-none w q) in
+    subst (Fine (happens w (RecoverStopped q call fill)).world.order differ) (sym none) (tt, tt)
+replies-fine c w (Downgrade q) stands may admitted behind differ = (tt, tt)
 replies-fine c w (Show q) stands may admitted behind differ = (tt, tt)
 replies-fine c w ShowOrder stands may admitted behind differ = (tt, tt)
 replies-fine c w Gather stands may admitted behind differ = (tt, tt)

@@ -28,7 +28,7 @@ use Rattle.cg_action.specs.declared.value.Value.TheVariants.{Text, Int}
 use Rattle.cg_base.specs.Lists.{Each}
 use Rattle.cg_group.specs.EachLaws.{Each-append}
 use Rattle.cg_schedule.specs.declared.event.Event.{Event}
-use Rattle.cg_schedule.specs.declared.event.Event.TheVariants.{Start, Split, Merge, Request, Weak, Dirty, Order, Recover, Show, ShowOrder, Gather, End, Receive, Deliver, Rounds, Stop, Fail, Join, Leave, Transfer}
+use Rattle.cg_schedule.specs.declared.event.Event.TheVariants.{Start, Split, Merge, Request, Weak, Dirty, Order, Recover, RecoverStopped, Downgrade, Show, ShowOrder, Gather, End, Receive, Deliver, Rounds, Stop, Fail, Join, Leave, Transfer}
 use Rattle.cg_schedule.specs.Limits.{IsPrintable, IsQuery, IsUpdate, IsEvent}
 use Rattle.cg_schedule.specs.Print.{id_behind, member_behind, hex_glyph, hex_text, fill_text, line_of}
 use Rattle.cg_gen.specs.Lines.{lines_of}
@@ -180,6 +180,8 @@ line-shown (Weak p q) is = two (codes "weak ") (decimal p) (query_text q) refl (
 line-shown (Dirty p q) is = two (codes "dirty ") (decimal p) (query_text q) refl (id p is.0) (query q is.1)
 line-shown (Order p) is = behind (codes "order ") (decimal p) refl (id p is)
 line-shown (Recover p) is = behind (codes "recover ") (decimal p) refl (id p is)
+line-shown (RecoverStopped p call bytes) is = three (codes "recover ") (decimal p) (decimal call) (fill_text bytes) refl (id p is.0) (up-to call 1000000 (omega arith) is.1.0.1) (fill bytes)
+line-shown (Downgrade p) is = behind (codes "downgrade ") (decimal p) refl (id p is)
 line-shown (Show p) is = behind (codes "show ") (decimal p) refl (id p is)
 line-shown ShowOrder is = word (codes "show order") refl
 line-shown Gather is = word (codes "gather") refl

@@ -6,11 +6,12 @@ use Rattle.cg_base.specs.Sets.{has}
 use Rattle.cg_base.specs.Weights.{ids}
 use Rattle.cg_members.specs.Servers.{is_server}
 use Rattle.cg_group.specs.declared.reason.Reason.{Reason}
-use Rattle.cg_group.specs.declared.reason.Reason.TheVariants.{AlreadyUp, UnknownReplica, IdUsed, JoinNotGreen, HasLeft}
+use Rattle.cg_group.specs.declared.reason.Reason.TheVariants.{AlreadyUp, UnknownReplica, IdUsed, JoinNotGreen, HasLeft, Weighted}
 use Rattle.cg_group.specs.Refusals.{refuse, empty_set, any_of, not_up, order_refusal, receive_refusal, deliver_refusal, split_refusal, merge_refusal}
 use Rattle.cg_schedule.specs.declared.event.Event.{Event}
-use Rattle.cg_schedule.specs.declared.event.Event.TheVariants.{Start, Split, Merge, Request, Weak, Dirty, Order, Recover, Show, Receive, Deliver, Stop, Fail, Join, Leave, Transfer}
-use Rattle.cg_model.specs.World.{World, has_begun, replica_of, is_left, left_replicas}
+use Rattle.cg_schedule.specs.declared.event.Event.TheVariants.{Start, Split, Merge, Request, Weak, Dirty, Order, Recover, RecoverStopped, Downgrade, Show, Receive, Deliver, Stop, Fail, Join, Leave, Transfer}
+use Rattle.cg_older.specs.Older.{has_weights}
+use Rattle.cg_model.specs.World.{World, disk_at, has_begun, replica_of, is_left, left_replicas}
 
 -- the replica hasn't begun
 abbrev pub unknown : World → ℕ → Option Reason
@@ -34,6 +35,14 @@ abbrev pub not_green : World → ℕ → ℕ → Option Reason
 not_green w p joiner =
     refuse (not (option_map_or (λ r. is_server r.held.members joiner) (replica_of w p) false)) (JoinNotGreen joiner)
 
+-- a weight above 1 stands on the replica's disk
+abbrev pub is_weighted : World → ℕ → Option Reason
+is_weighted w p = refuse (option_map_or (λ d. has_weights d.content) (disk_at w p) false) (Weighted p)
+
+-- why a replica can't come up
+abbrev pub cannot_rise : World → ℕ → Option Reason
+cannot_rise w p = first_some (unknown w p ∷ refuse (is_some (replica_of w p)) (AlreadyUp p) ∷ [])
+
 -- why a replica can't take part in an event as itself
 abbrev pub takes_part : World → ℕ → Option Reason
 takes_part w p = first_some (unknown w p ∷ not_up w.group p ∷ has_left w p ∷ [])
@@ -49,7 +58,9 @@ first_refusal w (Request p cmds query) = takes_part w p
 first_refusal w (Weak p query) = takes_part w p
 first_refusal w (Dirty p query) = takes_part w p
 first_refusal w (Order p) = first_some (unknown w p ∷ order_refusal w.group p ∷ [])
-first_refusal w (Recover p) = first_some (unknown w p ∷ refuse (is_some (replica_of w p)) (AlreadyUp p) ∷ [])
+first_refusal w (Recover p) = cannot_rise w p
+first_refusal w (RecoverStopped p call fill) = cannot_rise w p
+first_refusal w (Downgrade p) = first_some (cannot_rise w p ∷ is_weighted w p ∷ [])
 first_refusal w (Show p) = first_some (unknown w p ∷ not_up w.group p ∷ [])
 first_refusal w (Receive p place) = first_some (unknown w p ∷ receive_refusal w.group p place ∷ [])
 first_refusal w (Deliver p count) = first_some (unknown w p ∷ deliver_refusal w.group p count ∷ [])

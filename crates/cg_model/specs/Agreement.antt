@@ -13,7 +13,7 @@ use Rattle.cg_db.specs.Apply.{apply, fold_actions}
 use Rattle.cg_db.specs.Find.{answer, query_of}
 use Rattle.cg_members.specs.Servers.{members_of, is_server}
 use Rattle.cg_schedule.specs.declared.event.Event.{Event}
-use Rattle.cg_schedule.specs.declared.event.Event.TheVariants.{Split, Merge, Weak, Dirty, Deliver, Recover, Transfer}
+use Rattle.cg_schedule.specs.declared.event.Event.TheVariants.{Split, Merge, Weak, Dirty, Deliver, Recover, RecoverStopped, Transfer}
 use Rattle.cg_report.specs.declared.entry.Reply.{Reply}
 use Rattle.cg_report.specs.declared.entry.Shown.TheVariants.{Weak as ShownWeak, Dirty as ShownDirty, Greens, Database, All}
 use Rattle.cg_report.specs.declared.line.Line.{Line}
@@ -51,6 +51,7 @@ may_move (Deliver q count) p = q == p
 may_move (Split set) p = has set p
 may_move (Merge set) p = has set p
 may_move (Recover q) p = q == p
+may_move (RecoverStopped q call fill) p = q == p
 may_move (Transfer q joiner pieces) p = joiner == p
 may_move other p = false
 
@@ -105,6 +106,7 @@ is_down_in p s = list_any (λ l. (l.id == p) && option_map_or (λ up. false) l.u
 -- the event recovers the replica
 abbrev pub is_recovery_of : ℕ → Event → Bool
 is_recovery_of p (Recover q) = q == p
+is_recovery_of p (RecoverStopped q call fill) = q == p
 is_recovery_of p other = false
 
 -- the step shows the action as made, and not at a recovery of its creator

@@ -18,11 +18,11 @@ use Rattle.cg_client.specs.Turn.{Turn}
 use Rattle.cg_model.specs.ReplicaStep.{Input, Deliveries, Asks as AsksOf, replica_step}
 use Rattle.cg_disk_records.specs.Crash.{FailOnce, StopWith, Strike, EventEnd, Runs, Crashes, end_event, new_disk}
 use Rattle.cg_schedule.specs.declared.event.Event.{Event}
-use Rattle.cg_schedule.specs.declared.event.Event.TheVariants.{Start, Split, Merge, Request, Weak, Dirty, Order, Recover, Show, ShowOrder, Gather, End, Receive, Deliver, Rounds, Stop, Fail, Join, Leave, Transfer}
+use Rattle.cg_schedule.specs.declared.event.Event.TheVariants.{Start, Split, Merge, Request, Weak, Dirty, Order, Recover, RecoverStopped, Downgrade, Show, ShowOrder, Gather, End, Receive, Deliver, Rounds, Stop, Fail, Join, Leave, Transfer}
 use Rattle.cg_model.specs.World.{NodeState, Up, Down, Node, TransferState, World, running, node_of, has_begun, replica_of, up_replicas, with_node, bring_up}
 use Rattle.cg_model.specs.Admission.{first_refusal}
 use Rattle.cg_model.specs.Show.{StepInProgress, ended}
-use Rattle.cg_model.specs.Step.{quietly, after_event, hand_to, hand, hand_over, name_also, begin_replica, arm_at, arm, crash_at, recover_from, recover, joiner_replica, snapshot_for, without_snapshot, with_pieces, take_pieces, transfer, happens, world_step}
+use Rattle.cg_model.specs.Step.{quietly, after_event, hand_to, hand, hand_over, name_also, begin_replica, arm_at, arm, crash_at, recover_from, recover, is_struck, stay_down_at, stay_down, recover_under, downgrade_at, downgrade, joiner_replica, snapshot_for, without_snapshot, with_pieces, take_pieces, transfer, happens, world_step}
 use Rattle.cg_model.specs.Run.{MayStand}
 use Rattle.cg_client.specs.Joined.{piece_count}
 use Rattle.cg_group.specs.LookupLaws.{at-cond}
@@ -99,6 +99,23 @@ module _ (P : List Node → Type 0) (kept : (nodes : List Node) (new : Node) →
     at None = is
     at (Some s) = life s.life
 
+  stayed_keeps : (w : World) (p : ℕ) (strike : Strike) → P w.nodes → P (stay_down w p strike).nodes
+  stayed_keeps w p strike is = by_life w (stay_down_at w p strike) each is (node_of w p) where
+    each : (l : NodeState) → P (stay_down_at w p strike l).nodes
+    each (Up r disk) = is
+    each (Down disk green) = kept w.nodes _ is
+
+  downgraded_keeps : (w : World) (p : ℕ) → P w.nodes → P (downgrade w p).nodes
+  downgraded_keeps w p is = by_life w (downgrade_at w p) each is (node_of w p) where
+    each : (l : NodeState) → P (downgrade_at w p l).nodes
+    each (Up r disk) = is
+    each (Down disk green) = kept w.nodes _ is
+
+  risen_keeps : (w : World) (p : ℕ) (strike : Strike) → P w.nodes → P (recover_under w p strike).world.nodes
+  risen_keeps w p strike is =
+      cond_both (is_struck w p strike) (quietly (stay_down w p strike)) (recover w p)
+      (λ (g : StepInProgress). P g.world.nodes) (λ y. stayed_keeps w p strike is) (λ n. recovered_keeps w p is)
+
   pieces_keep : (w : World) (s : TransferState) (taken : ℕ) → P w.nodes → P (with_pieces w s taken).nodes
   pieces_keep w s taken is =
       let others = without_snapshot w s.joiner in
@@ -124,6 +141,8 @@ module _ (P : List Node → Type 0) (kept : (nodes : List Node) (new : Node) →
       all_keep (quietly (record w { group = (merge w.group set).group })) (merge w.group set).handed is
   step_keeps w (Request p cmds query) is = hand_keeps (quietly w) p (AsksOf (Update cmds query)) is
   step_keeps w (Recover p) is = recovered_keeps w p is
+  step_keeps w (RecoverStopped p call fill) is = risen_keeps w p (record { call = call; fault = StopWith fill }) is
+  step_keeps w (Downgrade p) is = downgraded_keeps w p is
   step_keeps w (Deliver p count) is =
       all_keep (quietly (record w { group = (deliver w.group p count).group })) (deliver w.group p count).handed is
   step_keeps w (Stop p zero fill) is = stopped_keeps w p is
@@ -183,6 +202,8 @@ step_nodes w (Weak p query) may admitted = nodes_stay w (Weak p query) may.0
 step_nodes w (Dirty p query) may admitted = nodes_stay w (Dirty p query) may.0
 step_nodes w (Order p) may admitted = nodes_stay w (Order p) may.0
 step_nodes w (Recover p) may admitted = nodes_stay w (Recover p) may.0
+step_nodes w (RecoverStopped p call fill) may admitted = nodes_stay w (RecoverStopped p call fill) may.0
+step_nodes w (Downgrade p) may admitted = nodes_stay w (Downgrade p) may.0
 step_nodes w (Show p) may admitted = nodes_stay w (Show p) may.0
 step_nodes w ShowOrder may admitted = nodes_stay w ShowOrder may.0
 step_nodes w Gather may admitted = nodes_stay w Gather may.0

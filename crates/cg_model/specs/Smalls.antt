@@ -15,11 +15,11 @@ use Rattle.cg_group.specs.Events.{regulars, order_all, furthest, transitional_pl
 use Rattle.cg_group.specs.Refusals.{sender_at, order_refusal, receive_refusal}
 use Rattle.cg_client.specs.Replica.{State, TransPrim, No, Un, NonPrim}
 use Rattle.cg_disk_records.specs.Commit.{commits}
-use Rattle.cg_disk_records.specs.Crash.{EventEnd, Runs, Crashes as EndsInCrash}
+use Rattle.cg_disk_records.specs.Crash.{StopWith, EventEnd, Runs, Crashes as EndsInCrash}
 use Rattle.cg_schedule.specs.declared.event.Event.{Event}
-use Rattle.cg_schedule.specs.declared.event.Event.TheVariants.{Start, Split, Merge, Request, Order, Recover, Gather, Receive, Deliver, Stop, Join, Leave, Transfer}
+use Rattle.cg_schedule.specs.declared.event.Event.TheVariants.{Start, Split, Merge, Request, Order, Recover, RecoverStopped, Gather, Receive, Deliver, Stop, Join, Leave, Transfer}
 use Rattle.cg_model.specs.World.{World, has_begun, replica_of, is_left}
-use Rattle.cg_model.specs.Step.{snapshot_for}
+use Rattle.cg_model.specs.Step.{is_struck, snapshot_for}
 use Rattle.cg_model.specs.Turns.{Taken, turns_of, stands}
 use Rattle.cg_model.specs.Chronicle.{Chronicle}
 use Rattle.cg_model.specs.Looks.{told_in, ordered_in, is_member, snapshot_of}
@@ -174,5 +174,7 @@ smalls_in w (Join p joiner weight) = turns_as (turn_steps w (Join p joiner weigh
 smalls_in w (Leave p server) = turns_as (turn_steps w (Leave p server)) w (Leave p server)
 smalls_in w (Stop p call fill) = if call == 0 then Crashes p ∷ [] else []
 smalls_in w (Recover p) = Recovers p ∷ []
+smalls_in w (RecoverStopped p call fill) =
+    if is_struck w p (record { call = call; fault = StopWith fill }) then [] else Recovers p ∷ []
 smalls_in w (Transfer p joiner pieces) = copy_steps w p joiner ++ join_steps w p joiner pieces
 smalls_in w other = []

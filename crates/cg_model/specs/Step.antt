@@ -1,5 +1,5 @@
 -- The step of a world: what each event does.
-use Rattle.std.specs.Prelude.{ℕ, zero, suc, ◌+◌, ◌==◌, min, false, not, ◌&&◌, List, [], ◌∷◌, ◌++◌, Some, find, filter, fold, if◌then◌else◌}
+use Rattle.std.specs.Prelude.{ℕ, zero, suc, ◌+◌, ◌==◌, min, Bool, false, not, ◌&&◌, List, [], ◌∷◌, ◌++◌, Some, find, filter, fold, if◌then◌else◌}
 use Rattle.std.specs.Option.{option_map_or}
 use Rattle.cg_base.specs.declared.weighted.Weighted.{Weighted}
 use Rattle.cg_base.specs.Sets.{with_member}
@@ -16,10 +16,12 @@ use Rattle.cg_client.specs.Turn.{Turn}
 use Rattle.cg_client.specs.Queries.{weak_answer, dirty_answer}
 use Rattle.cg_model.specs.ReplicaStep.{Input, Deliveries, Asks, replica_step}
 use Rattle.cg_disk_records.specs.Crash.{FailOnce, StopWith, Strike, EventEnd, Runs, Crashes, new_disk, end_event, at_rest, recovered, disk_recovered}
+use Rattle.cg_disk_records.specs.Recovery.{recovery_outcome, is_reached}
+use Rattle.cg_older.specs.OldDisk.{old_disk}
 use Rattle.cg_report.specs.declared.entry.Shown.{Shown}
 use Rattle.cg_report.specs.declared.entry.Shown.TheVariants.{Weak as ShownWeak, Dirty as ShownDirty, Pieces, Greens, Database, All}
 use Rattle.cg_schedule.specs.declared.event.Event.{Event}
-use Rattle.cg_schedule.specs.declared.event.Event.TheVariants.{Start, Split, Merge, Request, Weak, Dirty, Order, Recover, Show, ShowOrder, Gather, Receive, Deliver, Stop, Fail, Join, Leave, Transfer}
+use Rattle.cg_schedule.specs.declared.event.Event.TheVariants.{Start, Split, Merge, Request, Weak, Dirty, Order, Recover, RecoverStopped, Downgrade, Show, ShowOrder, Gather, Receive, Deliver, Stop, Fail, Join, Leave, Transfer}
 use Rattle.cg_model.specs.World.{NodeState, Up, Down, TransferState, World, node_of, replica_of, set_life, bring_up, bring_down}
 use Rattle.cg_model.specs.Show.{StepInProgress, Moved, news_of, news_of_recovery, tell, ended}
 
@@ -98,6 +100,34 @@ recover_from w (Down disk green) =
 abbrev pub recover : World → ℕ → StepInProgress
 recover w p = option_map_or (λ s. recover_from w s.life) (node_of w p) (quietly w)
 
+-- the strike reaches a device call of the replica's recovery
+abbrev pub is_struck_at : Strike → NodeState → Bool
+is_struck_at strike (Up r disk) = false
+is_struck_at strike (Down disk green) = is_reached disk strike
+
+abbrev pub is_struck : World → ℕ → Strike → Bool
+is_struck w p strike = option_map_or (λ s. is_struck_at strike s.life) (node_of w p) false
+
+-- the replica stays down, and its disk stands for what it stood for
+abbrev pub stay_down_at : World → ℕ → Strike → NodeState → World
+stay_down_at w p strike (Up r disk) = w
+stay_down_at w p strike (Down disk green) = set_life w p (Down (recovery_outcome disk strike) green)
+
+abbrev pub stay_down : World → ℕ → Strike → World
+stay_down w p strike = option_map_or (λ s. stay_down_at w p strike s.life) (node_of w p) w
+
+-- a recovery in which a stop is armed at the given device call; where it has fewer calls nothing is armed behind it
+abbrev pub recover_under : World → ℕ → Strike → StepInProgress
+recover_under w p strike = if is_struck w p strike then quietly (stay_down w p strike) else recover w p
+
+-- a disk of the older format in place of the replica's, which stands for the same
+abbrev pub downgrade_at : World → ℕ → NodeState → World
+downgrade_at w p (Up r disk) = w
+downgrade_at w p (Down disk green) = set_life w p (Down (old_disk disk.content) green)
+
+abbrev pub downgrade : World → ℕ → World
+downgrade w p = option_map_or (λ s. downgrade_at w p s.life) (node_of w p) w
+
 -- ---- snapshots
 
 -- the replica that a joiner becomes: what its representative has green and knows of primary components
@@ -153,6 +183,8 @@ happens w (Weak p query) = showing_of w p (λ r. ShownWeak p (weak_answer r.held
 happens w (Dirty p query) = showing_of w p (λ r. ShownDirty p (dirty_answer r.held query) ∷ [])
 happens w (Order p) = quietly (record w { group = order w.group p })
 happens w (Recover p) = recover w p
+happens w (RecoverStopped p call fill) = recover_under w p (record { call = call; fault = StopWith fill })
+happens w (Downgrade p) = quietly (downgrade w p)
 happens w (Show p) = showing_of w p shown_of
 happens w ShowOrder = showing w (All w.order ∷ [])
 happens w Gather = quietly (record w { group = gather w.group })

@@ -4,7 +4,7 @@ use Rattle.cg_base.specs.Sets.{has}
 use Rattle.cg_base.specs.Weights.{ids}
 use Rattle.cg_report.specs.declared.line.Line.{Line}
 use Rattle.cg_schedule.specs.declared.event.Event.{Event}
-use Rattle.cg_schedule.specs.declared.event.Event.TheVariants.{Start, Split, Merge, Request, Weak, Dirty, Order, Recover, Show, ShowOrder, Gather, End, Receive, Deliver, Rounds, Stop, Fail, Join, Leave, Transfer}
+use Rattle.cg_schedule.specs.declared.event.Event.TheVariants.{Start, Split, Merge, Request, Weak, Dirty, Order, Recover, RecoverStopped, Downgrade, Show, ShowOrder, Gather, End, Receive, Deliver, Rounds, Stop, Fail, Join, Leave, Transfer}
 use Rattle.cg_model.specs.World.{World}
 use Rattle.cg_model.specs.Admission.{first_refusal}
 use Rattle.cg_model.specs.Show.{line_of, is_news}
@@ -23,6 +23,8 @@ touched (Weak p query) = []
 touched (Dirty p query) = []
 touched (Order p) = []
 touched (Recover p) = p ∷ []
+touched (RecoverStopped p call fill) = p ∷ []
+touched (Downgrade p) = p ∷ []
 touched (Show p) = []
 touched ShowOrder = []
 touched Gather = []
