@@ -28,7 +28,7 @@ pub(crate) fn advice(reason: Reason) -> &'static str {
         Reason::NotTogether(_) => " was split together with a replica that is named; name it too",
         Reason::EmptySet => " is named; name one",
         Reason::AlreadyUp(_) =>
-            " is up, or has begun already; recover only one that is down, and transfer only to a new one",
+            " is up, or has begun already; recover or downgrade only one that is down, and transfer only to a new one",
         Reason::UnknownReplica(_) =>
             " hasn't begun; name it at start, or let it join and transfer a snapshot to it",
         Reason::IdUsed(_) => " was named before, by start or by a join; take another identifier",
@@ -37,6 +37,8 @@ pub(crate) fn advice(reason: Reason) -> &'static str {
         Reason::HasLeft(_) => " has left for good; leave it out, or name another replica",
         Reason::EarlierMissing(_) => " of the same sender must be received first",
         Reason::StillRegular(_) => " is still in a configuration; split it first",
+        Reason::Weighted(_) =>
+            " has a weight above 1 on its disk, and the older format has no weights; leave this line out",
         Reason::Discarded(_) =>
             ", are discarded there, and the follower lacks some of them; make it anew, or feed it from a replica that has them",
         Reason::WouldGoBack(_) => ", and the replica isn't so far; make it from another one",

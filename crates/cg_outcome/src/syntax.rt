@@ -10,7 +10,7 @@ pub(crate) fn misreading(reason: u8) -> &'static str {
         5 =>
             "a number, an identifier or a value is misspelled or out of range; identifiers are 1 to 32, with blanks between them, and texts stand between double quotes",
         6 =>
-            "a text is misspelled; it stands between double quotes, a key of 1 to 64 bytes, a value of up to 1024; and a `stop` or `fstop` ends with `-` or pairs of hexadecimal digits",
+            "a text is misspelled; it stands between double quotes, a key of 1 to 64 bytes, a value of up to 1024; and a `stop`, a `fstop` or a `recover` with a call ends with `-` or pairs of hexadecimal digits",
         7 =>
             "there is no such command or query; commands are put, del, inc, cas, move and need; queries, which stand after `?` in a request, are get, keys and count",
         8 =>

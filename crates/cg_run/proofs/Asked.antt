@@ -2,7 +2,7 @@
 use Rattle.std.proofs.Common.{◌≡◌, ◌<◌, ℕ, List, length, Some, Ok, true, false, not, if◌then◌else◌, refl, ◌∙◌}
 use Rattle.std.proofs.lemmas.Bool.{and_parts, not-true}
 use Rattle.cg_schedule.specs.declared.event.Event.{Event}
-use Rattle.cg_schedule.specs.declared.event.Event.TheVariants.{Start, Split, Merge, Request, Weak, Dirty, Order, Recover, Show, ShowOrder, Gather, End, Receive, Deliver, Rounds, Stop, Fail, Join, Leave, Transfer}
+use Rattle.cg_schedule.specs.declared.event.Event.TheVariants.{Start, Split, Merge, Request, Weak, Dirty, Order, Recover, RecoverStopped, Downgrade, Show, ShowOrder, Gather, End, Receive, Deliver, Rounds, Stop, Fail, Join, Leave, Transfer}
 use Rattle.cg_schedule.specs.declared.word.Word.{Word}
 use Rattle.cg_schedule.specs.Limits as line
 use Rattle.cg_schedule.specs.Reading.{whole}
@@ -16,6 +16,7 @@ use Rattle.cg_run.specs.Next.{MayHappen, IsNext}
 -- an event within the limits counts its device call from 1
 counted : (e : Event) → line.IsEvent e → IsCounted e
 counted (Fail p call) is = is.1.0
+counted (RecoverStopped p call fill) is = is.1.0.0
 counted other is = tt
 
 -- what may stand in the reader's state was started, where it is no start
@@ -42,6 +43,8 @@ next_of s (Weak p query) under fit is ok = next_on s (Weak p query) under refl f
 next_of s (Dirty p query) under fit is ok = next_on s (Dirty p query) under refl fit refl (λ hosted. ((hosted, may_ask (Dirty p query) is), ok))
 next_of s (Order p) under fit is ok = next_on s (Order p) under refl fit refl (λ hosted. ((hosted, tt), tt))
 next_of s (Recover p) under fit is ok = next_on s (Recover p) under refl fit refl (λ hosted. ((hosted, tt), tt))
+next_of s (RecoverStopped p call fill) under fit is ok = next_on s (RecoverStopped p call fill) under refl fit refl (λ hosted. ((hosted, tt), ok))
+next_of s (Downgrade p) under fit is ok = next_on s (Downgrade p) under refl fit refl (λ hosted. ((hosted, tt), tt))
 next_of s (Show p) under fit is ok = next_on s (Show p) under refl fit refl (λ hosted. ((hosted, tt), tt))
 next_of s ShowOrder under fit is ok = next_on s ShowOrder under refl fit refl (λ hosted. ((hosted, tt), tt))
 next_of s Gather under fit is ok = next_on s Gather under refl fit refl (λ hosted. ((hosted, tt), tt))

@@ -25,7 +25,7 @@ Syntax { line: 4, reason: 2 } -> line 4 can't be read: its first word is none th
 Syntax { line: 4, reason: 3 } -> line 4 can't be read: it ends too early; docs/SCHEDULES.md has the parts of each line, as `stop 1 0 -` (reason 3)
 Syntax { line: 4, reason: 4 } -> line 4 can't be read: it goes on where it must end, or where `;` or `?` must follow; a comment has a line of its own (reason 4)
 Syntax { line: 4, reason: 5 } -> line 4 can't be read: a number, an identifier or a value is misspelled or out of range; identifiers are 1 to 32, with blanks between them, and texts stand between double quotes (reason 5)
-Syntax { line: 4, reason: 6 } -> line 4 can't be read: a text is misspelled; it stands between double quotes, a key of 1 to 64 bytes, a value of up to 1024; and a `stop` or `fstop` ends with `-` or pairs of hexadecimal digits (reason 6)
+Syntax { line: 4, reason: 6 } -> line 4 can't be read: a text is misspelled; it stands between double quotes, a key of 1 to 64 bytes, a value of up to 1024; and a `stop`, a `fstop` or a `recover` with a call ends with `-` or pairs of hexadecimal digits (reason 6)
 Syntax { line: 4, reason: 7 } -> line 4 can't be read: there is no such command or query; commands are put, del, inc, cas, move and need; queries, which stand after `?` in a request, are get, keys and count (reason 7)
 Syntax { line: 4, reason: 8 } -> line 4 can't be read: an identifier isn't above the one before it, or there are more than 16 commands; name each replica once, in ascending order (reason 8)
 Syntax { line: 4, reason: 9 } -> line 4 can't be read: it comes at the wrong place; a schedule's `start` is its first event and comes once, `end` is the last line (reason 9)
@@ -38,13 +38,14 @@ NotReady(8) -> line 5 isn't admitted: the places that are ready number 8; delive
 NotOneConfiguration(ReplicaId { number: 3 }) -> line 5 isn't admitted: replica 3 isn't in the configuration of the lowest replica named; split each configuration by a line of its own (reason 7)
 NotTogether(ReplicaId { number: 3 }) -> line 5 isn't admitted: replica 3 was split together with a replica that is named; name it too (reason 8)
 EmptySet -> line 5 isn't admitted: no replica is named; name one (reason 9)
-AlreadyUp(ReplicaId { number: 3 }) -> line 5 isn't admitted: replica 3 is up, or has begun already; recover only one that is down, and transfer only to a new one (reason 10)
+AlreadyUp(ReplicaId { number: 3 }) -> line 5 isn't admitted: replica 3 is up, or has begun already; recover or downgrade only one that is down, and transfer only to a new one (reason 10)
 UnknownReplica(ReplicaId { number: 3 }) -> line 5 isn't admitted: replica 3 hasn't begun; name it at start, or let it join and transfer a snapshot to it (reason 11)
 IdUsed(ReplicaId { number: 3 }) -> line 5 isn't admitted: replica 3 was named before, by start or by a join; take another identifier (reason 12)
 JoinNotGreen(ReplicaId { number: 3 }) -> line 5 isn't admitted: replica 3 is no server yet to the replica that gives the snapshot; let the join become green there first (reason 13)
 HasLeft(ReplicaId { number: 3 }) -> line 5 isn't admitted: replica 3 has left for good; leave it out, or name another replica (reason 14)
 EarlierMissing(8) -> line 5 isn't admitted: place 8 of the same sender must be received first (reason 15)
 StillRegular(ReplicaId { number: 3 }) -> line 5 isn't admitted: replica 3 is still in a configuration; split it first (reason 16)
+Weighted(ReplicaId { number: 3 }) -> line 5 isn't admitted: replica 3 has a weight above 1 on its disk, and the older format has no weights; leave this line out (reason 17)
 Discarded(8) -> line 5 isn't admitted: the replica's first actions, so many: 8, are discarded there, and the follower lacks some of them; make it anew, or feed it from a replica that has them (reason 18)
 WouldGoBack(8) -> line 5 isn't admitted: the follower was shown at place 8, and the replica isn't so far; make it from another one (reason 19)
 UnknownFollower(7) -> line 5 isn't admitted: follower 7 wasn't made; make it by a line `follower` (reason 20)
@@ -80,7 +81,7 @@ fn passed(what: Limit) -> Status {
     Status::Limit { line: 2, what }
 }
 
-fn reasons(id: ReplicaId, place: u64, number: u8) -> [Reason; 24] {
+fn reasons(id: ReplicaId, place: u64, number: u8) -> [Reason; 25] {
     [
         Reason::NotUp(id),
         Reason::NotRegular(id),
@@ -98,6 +99,7 @@ fn reasons(id: ReplicaId, place: u64, number: u8) -> [Reason; 24] {
         Reason::HasLeft(id),
         Reason::EarlierMissing(place),
         Reason::StillRegular(id),
+        Reason::Weighted(id),
         Reason::Discarded(place),
         Reason::WouldGoBack(place),
         Reason::UnknownFollower(number),

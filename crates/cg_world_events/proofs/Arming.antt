@@ -5,6 +5,7 @@ use Rattle.cg_disk.specs.Crashes.{armed_at, Arms}
 use Rattle.cg_disk.specs.State.{DiskState, Blow}
 use Rattle.cg_disk.specs.View.{DiskView}
 use Rattle.cg_disk_records.specs.Crash.{Strike}
+use Rattle.cg_disk_records.specs.Format.{all_newer}
 use Rattle.cg_store.specs.Defined.{fault_of}
 use Rattle.cg_engine.specs.Engines.{Up as UpEngine, IsSame}
 use Rattle.cg_engine.specs.Defined.{strike_from}
@@ -30,4 +31,4 @@ module _ {D : Type 0} (view : D → DiskView) (old new : UpEngine D) (before aft
   unfolding disk_seen
   arms_seen = λ i.
       let u = standing_at (same.id i) (arms.reads i) in
-      node (same.id i) (Up (same.replica i) (record { content = u.content; unwritten = same.unwritten i; size = u.size; generation = u.generation; armed = strike_is i }))
+      node (same.id i) (Up (same.replica i) (record { content = u.content; unwritten = same.unwritten i; size = u.size; generation = u.generation; format = all_newer; armed = strike_is i }))

@@ -1,10 +1,12 @@
 -- A joiner's disk, and the replica that comes up from it.
-use Rattle.std.proofs.Common.{◌≡◌, ℕ, ◌+◌, [], refl, ap, ◌∙◌, arith}
+use Rattle.std.proofs.Common.{◌≡◌, ℕ, [], refl, ap, ◌∙◌, arith}
 use Rattle.cg_disk.specs.View.{DiskView}
 use Rattle.cg_client.specs.Replica.{Held}
 use Rattle.cg_client.specs.Summary.{own_to_red}
 use Rattle.cg_disk_records.specs.Stored.{recovery_turn}
 use Rattle.cg_disk_records.specs.Crash.{new_disk, recovered, disk_recovered}
+use Rattle.cg_store.specs.Formats.{newer}
+use Rattle.cg_store.specs.NewerLaws.{stands_newer}
 use Rattle.cg_store.specs.Stands.{Stands, created}
 use Rattle.cg_engine.specs.Engines.{Fallen}
 use Rattle.cg_model.specs.Step.{joiner_replica}
@@ -20,8 +22,8 @@ pub joined-rests : (d : DiskView) (s : TransferState) → IsOfJoined d s → IsC
 joined-rests d s is =
     let made : d.time ≡ 7 = is.time in
     record {
-      standing = created (joiner_replica s.joiner s.content).held;
-      stands = is.stands;
+      standing = newer (created (joiner_replica s.joiner s.content).held);
+      stands = stands_newer s.joiner d.reads (created (joiner_replica s.joiner s.content).held) is.stands;
       rest = is.rest;
       unarmed = is.unarmed;
       room = omega (arith, made);
@@ -42,6 +44,7 @@ pub arrives : {D : Type 0} (view : D → DiskView) (disk : D) (s : TransferState
 arrives view disk s stands =
     let w : Fallen _ = record { disk = disk; id = s.joiner; count = 0; green = [] } in
     let h = (joiner_replica s.joiner s.content).held in
-    let left : disk_left view w ≡ new_disk h = disk-left view w (created h) stands in
+    let left : disk_left view w ≡ new_disk h =
+    disk-left view w (newer (created h)) (stands_newer s.joiner (view disk).reads (created h) stands) in
     ap (λ d. node s.joiner (Up (recovered d) (disk_recovered d))) left
     ∙ (λ i. node s.joiner (Up (joined-recovers s.joiner s.content i) (joined-keeps s.joiner s.content i)))

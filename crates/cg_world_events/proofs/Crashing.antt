@@ -7,13 +7,14 @@ use Rattle.cg_disk.specs.State.{SideState, DiskState, synced_side, filled_from, 
 use Rattle.cg_disk.specs.View.{DiskView, IsView, IsSynced, IsAtRest}
 use Rattle.cg_client.specs.Replica.{Held}
 use Rattle.cg_disk_records.specs.Crash.{at_rest}
+use Rattle.cg_store.specs.Formats.{newer}
 use Rattle.cg_store.specs.Stands.{OnDisk, Stands, disk_of}
 use Rattle.cg_engine.specs.Answers.{Falls}
 use Rattle.cg_engine.specs.Engines.{Up as UpEngine, Fallen, told}
 use Rattle.cg_model.specs.World.{Down}
 use Rattle.cg_world_events.specs.Calls.{node, crashed}
 use Rattle.cg_world_events.specs.Seen.{state_at, disk_seen, up_seen, FallsTo, fallen}
-use Rattle.cg_world_events.specs.SeenLaws.{state-at, disk-seen}
+use Rattle.cg_world_events.specs.SeenLaws.{state-at, disk-seen, falls-newer}
 
 -- ---- a disk on which everything is synced
 
@@ -45,16 +46,17 @@ told_empty w h none = at (nat_lt w.count (green_count h.queue)) where
 
 module _ {D : Type 0} (view : D → DiskView) (e : UpEngine D) (w : Fallen D) (falls : Falls e w) (is : IsView (view e.store.disk)) (rest : IsAtRest (view e.store.disk))
     (s : DiskState) (state : (view e.store.disk).state ≡ Some s) (u : OnDisk) (stands : Stands e.store.id (view e.store.disk).reads u) where
-  pub falls_to : FallsTo view w [] u
+  pub falls_to : FallsTo view w [] (newer u)
   falls_to =
       let clean : IsSynced s = subst (λ x. IfSome x IsSynced) state rest.clean in
       let reads : shown s ≡ (view e.store.disk).reads = subst (λ x. IfSome x (λ s. shown s ≡ (view e.store.disk).reads)) state is.shows in
       let left : left_by (state_at (view e.store.disk)) [] ≡ (view e.store.disk).reads = ap (λ (x : DiskState). left_by x []) (state-at view e.store.disk s state) ∙ left_clean s clean [] ∙ reads in
-      subst (λ (d : D). Stands w.id (left_by (state_at (view d)) []) u) (sym falls.disk)
+      falls-newer view w [] u
+      (subst (λ (d : D). Stands w.id (left_by (state_at (view d)) []) u) (sym falls.disk)
       (subst (λ (id : ℕ). Stands id (left_by (state_at (view e.store.disk)) []) u) (sym falls.left.id_is)
-      (subst (λ (c : Image). Stands e.store.id c u) (sym left) stands))
+      (subst (λ (c : Image). Stands e.store.id c u) (sym left) stands)))
 
-  pub falls_seen : (fill : List ℕ) → fallen w u ≡ crashed e.store.id (up_seen view e fill).life
+  pub falls_seen : (fill : List ℕ) → fallen w (newer u) ≡ crashed e.store.id (up_seen view e fill).life
   falls_seen fill =
       let disk : disk_of [] u ≡ at_rest (disk_seen view e fill) = sym (ap at_rest (disk-seen view e fill u s stands state)) in
       let none : told w u.content ≡ [] = told_empty w u.content falls.green in

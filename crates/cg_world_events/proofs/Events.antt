@@ -17,6 +17,7 @@ use Rattle.cg_model.specs.ReplicaStep.{Input, replica_step}
 use Rattle.cg_store.specs.Calls.{Commits, EndsLong, outputs_of}
 use Rattle.cg_store.specs.StoreState.{StoreState}
 use Rattle.cg_store.specs.Stands.{OnDisk, Stands, disk_of, committed, checkpointed}
+use Rattle.cg_store.specs.Formats.{Standing, newer}
 use Rattle.cg_store.specs.declared.outputs.Outputs.{Outputs}
 use Rattle.cg_engine.specs.Answers.{parts_of, replica_behind, EndsEvent, HandlesEvent}
 use Rattle.cg_engine.specs.Defined.{EndsAsDefined, HandlesAsDefined}
@@ -26,14 +27,14 @@ use Rattle.cg_engine.specs.declared.answers.Handled.TheVariants as handled
 use Rattle.cg_model.specs.World.{Up, Down, Node}
 use Rattle.cg_world_events.specs.Calls.{NodeOutput, spoken_of, node, behind, taken}
 use Rattle.cg_world_events.specs.Seen.{disk_seen, up_seen, FallsTo, fallen, said}
-use Rattle.cg_world_events.specs.SeenLaws.{disk-seen, state-at}
+use Rattle.cg_world_events.specs.SeenLaws.{disk-seen, state-at, falls-newer}
 
 -- how an event ends that goes on, or falls
 abbrev pub gone_on : {D : Type 0} → (D → DiskView) → UpEngine D → List ℕ → Outputs → Node × Option NodeOutput
 gone_on view e fill o = (up_seen view e fill, Some (said o e.replica.held))
 
-abbrev pub fallen_down : {D : Type 0} → Fallen D → OnDisk → Node × Option NodeOutput
-fallen_down w u = (fallen w u, None)
+abbrev pub fallen_down : {D : Type 0} → Fallen D → Standing → Node × Option NodeOutput
+fallen_down w s = (fallen w s, None)
 
 module _ {D : Type 0} (view : D → DiskView) (law : HandlesAsDefined view) (kept : AlwaysKept) (counts : AlwaysCounts) (old : UpEngine D) (fill : List ℕ) (input : Input) (book : ActionId → Action) (s : DiskState)
     (tells : (view old.store.disk).state ≡ Some s) (is : IsEngine (view old.store.disk) old.store.id old.store.unwritten old.replica.held) (booked : AreBooked book old.replica.held input) where
@@ -92,16 +93,16 @@ module _ {D : Type 0} (view : D → DiskView) (law : HandlesAsDefined view) (kep
   -- ---- or it falls
 
   pub falls_down : (w : Fallen D) → HandlesEvent view old is.standing turn (handled.Down w) →
-      (u : OnDisk) × FallsTo view w fill u × (fallen_down w u ≡ taken old.store.id input (Up old.replica disk_before))
+      (s : Standing) × FallsTo view w fill s × (fallen_down w s ≡ taken old.store.id input (Up old.replica disk_before))
   falls_down w handles =
       let fell = ends_seen (handled.Down w) handles in
       let u = fell.standing in
       let id_is : w.id ≡ old.store.id = handles.ends.leaves.0.id_is in
-      let falls : FallsTo view w fill u = subst (λ (x : DiskState). Stands w.id (left_by x fill) u) (sym (state-at view w.disk fell.state fell.shown)) fell.stands in
-      (u, falls, (λ i. (node (id_is i) (Down (disk_of [] u) (told w u.content)), None)) ∙ ap wanted (sym fell.is))
+      let falls : FallsTo view w fill (newer u) = falls-newer view w fill u (subst (λ (x : DiskState). Stands w.id (left_by x fill) u) (sym (state-at view w.disk fell.state fell.shown)) fell.stands) in
+      (newer u, falls, (λ i. (node (id_is i) (Down (disk_of [] u) (told w u.content)), None)) ∙ ap wanted (sym fell.is))
 
 -- what is answered of each state that a crash leaves is answered of this one
-pub fallen_so : {D E : Type 0} (view : D → DiskView) (w : Fallen D) (fill : List ℕ) (u : OnDisk) → FallsTo view w fill u → (result : Result (Node × Option NodeOutput) E) (wanted : Node × Option NodeOutput) → fallen_down w u ≡ wanted →
-    IfOk result (λ x. (u : OnDisk) → FallsTo view w fill u → x ≡ fallen_down w u) → IfOk result (λ x. x ≡ wanted)
-fallen_so view w fill u falls (Ok x) wanted is each = each u falls ∙ is
-fallen_so view w fill u falls (Err fault) wanted is each = tt
+pub fallen_so : {D E : Type 0} (view : D → DiskView) (w : Fallen D) (fill : List ℕ) (s : Standing) → FallsTo view w fill s → (result : Result (Node × Option NodeOutput) E) (wanted : Node × Option NodeOutput) → fallen_down w s ≡ wanted →
+    IfOk result (λ x. (s : Standing) → FallsTo view w fill s → x ≡ fallen_down w s) → IfOk result (λ x. x ≡ wanted)
+fallen_so view w fill s falls (Ok x) wanted is each = each s falls ∙ is
+fallen_so view w fill s falls (Err fault) wanted is each = tt

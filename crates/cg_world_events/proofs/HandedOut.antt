@@ -1,15 +1,15 @@
 -- The disk that is handed out of a node is its disk at rest.
-use Rattle.std.proofs.Common.{◌≡◌, ◌==◌, ℕ, Bool, true, false, cond, List, [], ◌∷◌, Option, Some, None, refl, sym, ap, subst, ◌∙◌, eqb-true}
+use Rattle.std.proofs.Common.{◌≡◌, ◌==◌, ℕ, Bool, true, false, cond, List, [], ◌∷◌, Some, refl, sym, ap, subst, ◌∙◌, eqb-true}
 use Rattle.std.specs.Option.{option_map}
 use Rattle.cg_disk.specs.View.{DiskView}
 use Rattle.cg_disk_records.specs.Crash.{at_rest}
-use Rattle.cg_store.specs.Stands.{Stands, disk_of}
+use Rattle.cg_store.specs.Formats.{StandsFor, disk_in}
 use Rattle.cg_engine.specs.Engines.{Fallen}
 use Rattle.cg_model.specs.World.{NodeState, Up, Down, Node, World, node_disk, node_of}
 use Rattle.cg_world_events.specs.Calls.{crashed}
 use Rattle.cg_world_events.specs.CrashedDisk.{IsCrashedDisk}
 use Rattle.cg_world_events.specs.DiskOut.{HoldsDisk, GivesDisk}
-use Rattle.cg_world_events.specs.Seen.{disk_left, down_seen}
+use Rattle.cg_world_events.specs.Seen.{down_seen}
 use Rattle.cg_world_events.specs.SeenLaws.{disk-left}
 use Rattle.cg_world_events.proofs.NodeFacts.{found}
 
@@ -26,7 +26,7 @@ module _ {D : Type 0} (view : D → DiskView) (w : Fallen D) (rests : IsCrashedD
   whose : w.id ≡ p
   whose = sym (ap (λ (s : Node). s.id) same) ∙ same_node p life
 
-  stands_so : at_rest (node_disk life) ≡ disk_of [] rests.standing
+  stands_so : at_rest (node_disk life) ≡ disk_in [] rests.standing
   stands_so =
       sym (rests_alike p life) ∙ ap (λ (s : Node). at_rest (node_disk s.life)) same
       ∙ ap at_rest (disk-left view w rests.standing rests.stands)
@@ -35,7 +35,7 @@ module _ {D : Type 0} (view : D → DiskView) (w : Fallen D) (rests : IsCrashedD
   handed_out = record {
     image = record {
       standing = rests.standing;
-      stands = subst (λ (id : ℕ). Stands id (view w.disk).reads rests.standing) whose rests.stands;
+      stands = subst (λ (id : ℕ). StandsFor id (view w.disk).reads rests.standing) whose rests.stands;
       same = stands_so;
     };
     rest = rests.rest;

@@ -16,6 +16,7 @@ mod Opening
 mod Arming
 mod Crashing
 mod ComingUp
+mod Downgrading
 mod Finding
 mod Ordered
 mod Printing

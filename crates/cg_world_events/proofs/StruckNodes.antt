@@ -1,12 +1,15 @@
 -- A replica's node is struck, or comes up from its disk: the node is taken out, and what stands again is what the definitions make of it.
-use Rattle.std.proofs.Common.{◌≡◌, ℕ, true, false, List, [], ◌∷◌, Option, Some, None, Result, Ok, Err, IfOk, OnOk, IfSome, is_some, find, fold, option_and_then, option_map, refl, sym, ap, subst, ◌∙◌, eqb-true, inl, inr}
-use Rattle.std.specs.Prelude.{◌==◌}
+use Rattle.std.proofs.Common.{◌≡◌, ℕ, Bool, true, false, List, [], ◌∷◌, Option, Some, None, Result, Ok, Err, IfOk, OnOk, IfSome, is_some, find, fold, option_and_then, option_map, refl, sym, ap, subst, ◌∙◌, eqb-true, inl, inr}
+use Rattle.std.specs.Prelude.{◌==◌, if◌then◌else◌}
 use Rattle.std.specs.Option.{option_map_or}
 use Rattle.std.proofs.lemmas.Bool.{cases_Bool, cond-true, cond-false}
 use Rattle.cg_action.specs.declared.action.Action.{Action}
 use Rattle.cg_queue.specs.Queue.{Marking, Marks, Gaps, marked_red}
 use Rattle.cg_queue.specs.declared.mark.Mark.TheVariants.{Placed, Known}
 use Rattle.cg_group.specs.State.{is_up}
+use Rattle.cg_group.specs.Refusals.{refuse}
+use Rattle.cg_group.specs.declared.reason.Reason.{Reason}
+use Rattle.cg_group.specs.declared.reason.Reason.TheVariants.{Weighted}
 use Rattle.cg_group.specs.Events.{come_up}
 use Rattle.cg_client.specs.Replica.{NonPrim}
 use Rattle.cg_client.specs.Turn.{Turn, begin}
@@ -14,14 +17,18 @@ use Rattle.cg_client.specs.Marks.{marked}
 use Rattle.cg_client.specs.Summary.{redden, forget_own, own_to_red}
 use Rattle.cg_disk_records.specs.Stored.{recovery_turn as recover_stored}
 use Rattle.cg_disk_records.specs.Crash.{Disk, Strike, at_rest, recovered, disk_recovered}
-use Rattle.cg_model.specs.World.{NodeState, Up, Down, Node, World, running, node_of, replica_of, with_node, set_life}
+use Rattle.cg_disk_records.specs.Recovery.{recovery_outcome, is_reached}
+use Rattle.cg_older.specs.Older.{has_weights}
+use Rattle.cg_older.specs.OldDisk.{old_disk}
+use Rattle.cg_model.specs.Admission.{is_weighted}
+use Rattle.cg_model.specs.World.{NodeState, Up, Down, Node, World, running, node_of, node_disk, disk_at, replica_of, with_node, set_life}
 use Rattle.cg_model.specs.Looks.{on_disk}
-use Rattle.cg_model.specs.Show.{EventEffects, news_of_recovery, tell}
-use Rattle.cg_model.specs.Step.{quietly, arm_at, arm, crash_at, stop, recover_from, recover}
-use Rattle.cg_world_events.specs.Calls.{armed, crashed, risen}
+use Rattle.cg_model.specs.Show.{StepInProgress, EventEffects, news_of_recovery, tell}
+use Rattle.cg_model.specs.Step.{quietly, arm_at, arm, crash_at, stop, recover_from, recover, is_struck_at, stay_down_at, recover_under, downgrade_at, downgrade}
+use Rattle.cg_world_events.specs.Calls.{node, armed, crashed, risen, risen_under, downgraded, weighs}
 use Rattle.cg_world_events.specs.StepInProgress.{hosted, fallen}
 use Rattle.cg_world_events.specs.Grounds.{IsHosted}
-use Rattle.cg_world_events.specs.Striking.{returned, telling}
+use Rattle.cg_world_events.specs.Striking.{returned, back_with, telling}
 
 -- whose a found node is
 pub found-id : (nodes : List Node) (p : ℕ) (s : Node) → find (λ s. s.id == p) nodes ≡ Some s → s.id ≡ p
@@ -117,3 +124,65 @@ module _ (w : World) (nodes : List Node) (p : ℕ) (s : Node) (is : IsHosted w) 
       IfOk result (λ news. (after ≡ returned taken_out s) × (news ≡ (risen w.made s.id s.life).1)) → IfOk result (λ news. telling after news ≡ recover w p)
   recover-done (Ok news) after done = ap (λ x. telling x news) done.0 ∙ ap (telling (returned taken_out s)) done.1 ∙ recover-down
   recover-done (Err e) after done = tt
+
+  -- ---- with a stop that is armed
+
+  abbrev back : ℕ → Strike → NodeState → Node × Option EventEffects
+  back n strike life = risen_under w.made n strike life
+
+  abbrev stands_again : Node × Option EventEffects → StepInProgress
+  stands_again back = telling (back_with taken_out back) back.1
+
+  risen-under : (strike : Strike) (life : NodeState) → is_some (running life) ≡ false → (on_disk life).id ≡ p →
+      stands_again (back p strike life) ≡ (if is_struck_at strike life then quietly (stay_down_at w p strike life) else recover_from w life)
+  risen-under strike (Up r disk) down own = absurd (let clash : true ≡ false = down in cc)
+  risen-under strike (Down disk green) down own = at (is_reached disk strike) where
+    at : (b : Bool) →
+        stands_again (if b then (node p (Down (recovery_outcome disk strike) green), None) else risen w.made p (Down disk green))
+        ≡ (if b then quietly (stay_down_at w p strike (Down disk green)) else recover_from w (Down disk green))
+    at true = ap (λ list. quietly (record w { nodes = list })) (again (record { id = p; life = Down (recovery_outcome disk strike) green }) refl)
+    at false = risen-down (Down disk green) down own
+
+  under-down : (strike : Strike) → stands_again (back s.id strike s.life) ≡ recover_under w p strike
+  under-down strike =
+      let own : (on_disk s.life).id ≡ p = subst (λ o. IfSome (option_map (λ (s : Node). on_disk s.life) o) (λ h. h.id ≡ p)) there (is.disk p) in
+      let low : is_some (running s.life) ≡ false = subst (λ o. is_some (option_and_then (λ (s : Node). running s.life) o) ≡ false) there down in
+      ap (λ n. stands_again (back n strike s.life)) (found-id w.nodes p s there)
+      ∙ risen-under strike s.life low own
+      ∙ sym (ap (λ o. if option_map_or (λ (s : Node). is_struck_at strike s.life) o false then quietly (option_map_or (λ (s : Node). stay_down_at w p strike s.life) o w)
+      else option_map_or (λ (s : Node). recover_from w s.life) o (quietly w)) there)
+
+  pub under-done : (strike : Strike) → {E : Type 0} (result : Result (Option EventEffects) E) (after : World) →
+      IfOk result (λ news. (after ≡ back_with taken_out (back s.id strike s.life)) × (news ≡ (back s.id strike s.life).1)) → IfOk result (λ news. telling after news ≡ recover_under w p strike)
+  under-done strike (Ok news) after done =
+      ap (λ x. telling x news) done.0 ∙ ap (telling (back_with taken_out (back s.id strike s.life))) done.1 ∙ under-down strike
+  under-done strike (Err e) after done = tt
+
+-- ---- its disk becomes one of the older format
+
+module _ (w : World) (nodes : List Node) (p : ℕ) (s : Node) (there : node_of w p ≡ Some s) (down : is_some (replica_of w p) ≡ false)
+    (again : (t : Node) → t.id ≡ p → with_node nodes t ≡ with_node w.nodes t) where
+  made-old : (life : NodeState) → is_some (running life) ≡ false → hosted (record w { nodes = nodes }) (downgraded p life) ≡ downgrade_at w p life
+  made-old (Up r disk) low = absurd (let clash : true ≡ false = low in cc)
+  made-old (Down disk green) low = ap (λ list. record w { nodes = list }) (again (record { id = p; life = Down (old_disk disk.content) green }) refl)
+
+  pub old-made : hosted (record w { nodes = nodes }) (downgraded s.id s.life) ≡ downgrade w p
+  old-made =
+      let low : is_some (running s.life) ≡ false = subst (λ o. is_some (option_and_then (λ (s : Node). running s.life) o) ≡ false) there down in
+      ap (λ n. hosted (record w { nodes = nodes }) (downgraded n s.life)) (found-id w.nodes p s there)
+      ∙ made-old s.life low
+      ∙ sym (ap (λ o. option_map_or (λ (s : Node). downgrade_at w p s.life) o w) there)
+
+-- no weight stands on the disk of a replica that isn't refused for one
+weighs-on : (life : NodeState) → has_weights (node_disk life).content ≡ false → weighs life ≡ false
+weighs-on (Up r disk) none = refl
+weighs-on (Down disk green) none = none
+
+unrefused : (b : Bool) (reason : Reason) → refuse b reason ≡ None → b ≡ false
+unrefused true reason e = absurd (let clash : Some reason ≡ None = e in cc)
+unrefused false reason e = refl
+
+pub weightless : (w : World) (p : ℕ) (s : Node) → node_of w p ≡ Some s → is_weighted w p ≡ None → weighs s.life ≡ false
+weightless w p s there none =
+    weighs-on s.life (sym (ap (λ o. option_map_or (λ (d : Disk). has_weights d.content) (option_map (λ (s : Node). node_disk s.life) o) false) there)
+    ∙ unrefused (option_map_or (λ (d : Disk). has_weights d.content) (disk_at w p) false) (Weighted p) none)

@@ -1,5 +1,5 @@
 -- What each call makes of a replica with its disk, in the definitions of the world.
-use Rattle.std.specs.Prelude.{ℕ, Bool, false, List, [], ◌∷◌, Option, Some, None, IfSome, option_map}
+use Rattle.std.specs.Prelude.{ℕ, Bool, false, List, [], ◌∷◌, Option, Some, None, IfSome, option_map, if◌then◌else◌}
 use Rattle.std.specs.Option.{option_map_or}
 use Rattle.cg_base.specs.declared.action_id.ActionId.{ActionId}
 use Rattle.cg_base.specs.declared.weighted.Weighted.{Weighted}
@@ -17,6 +17,9 @@ use Rattle.cg_report.specs.declared.line.Line.{Line}
 use Rattle.cg_report.specs.declared.entry.Shown.{Shown}
 use Rattle.cg_report.specs.declared.entry.Shown.TheVariants.{Weak as ShownWeak, Dirty as ShownDirty}
 use Rattle.cg_disk_records.specs.Crash.{Strike, EventEnd, Runs, Crashes, new_disk, end_event, at_rest, recovered, disk_recovered}
+use Rattle.cg_disk_records.specs.Recovery.{recovery_outcome, is_reached}
+use Rattle.cg_older.specs.Older.{has_weights}
+use Rattle.cg_older.specs.OldDisk.{old_disk}
 use Rattle.cg_model.specs.Recorded.{AreBooked}
 use Rattle.cg_model.specs.ReplicaStep.{Input, replica_step}
 use Rattle.cg_model.specs.World.{NodeState, Up, Down, Node, running, is_left_state}
@@ -67,6 +70,18 @@ risen made p (Up r disk) = (node p (Up r disk), None)
 risen made p (Down disk green) = let r = recovered disk in
     (node p (Up r (disk_recovered disk)), Some (news_of_recovery made r.held green))
 
+-- the same in which a stop is armed: where it is reached the replica stays down
+abbrev pub risen_under : List ActionId → ℕ → Strike → NodeState → Node × Option EventEffects
+risen_under made p strike (Up r disk) = (node p (Up r disk), None)
+risen_under made p strike (Down disk green) =
+    if is_reached disk strike then (node p (Down (recovery_outcome disk strike) green), None)
+    else risen made p (Down disk green)
+
+-- a disk of the older format in place of its own
+abbrev pub downgraded : ℕ → NodeState → Node
+downgraded p (Up r disk) = node p (Up r disk)
+downgraded p (Down disk green) = node p (Down (old_disk disk.content) green)
+
 -- ---- what is seen of it
 
 abbrev pub line_in : Phase → Node → Line
@@ -74,6 +89,11 @@ line_in phase s = record { id = s.id; up = option_map (up_line phase) (running s
 
 abbrev pub is_gone : NodeState → Bool
 is_gone life = option_map_or (λ r. is_left_state r.state) (running life) false
+
+-- it is down, and a weight above 1 stands on its disk
+abbrev pub weighs : NodeState → Bool
+weighs (Up r disk) = false
+weighs (Down disk green) = has_weights disk.content
 
 -- it creates a request at once
 abbrev pub creates_in : NodeState → Bool

@@ -1,7 +1,7 @@
 -- What comes of an event: what it does, or the reason by which it isn't admitted.
 use Rattle.std.specs.Prelude.{◌≡◌, ◌≤◌, Option, Some, None, Result, Ok, Err, MatchResult}
 use Rattle.cg_schedule.specs.declared.event.Event.{Event}
-use Rattle.cg_schedule.specs.declared.event.Event.TheVariants.{Fail}
+use Rattle.cg_schedule.specs.declared.event.Event.TheVariants.{Fail, RecoverStopped}
 use Rattle.cg_group.specs.declared.reason.Reason.{Reason}
 use Rattle.cg_group.specs.declared.error.GroupErr.{GroupErr}
 use Rattle.cg_group.specs.declared.error.GroupErr.TheVariants as fault
@@ -9,9 +9,10 @@ use Rattle.cg_model.specs.Show.{StepInProgress}
 use Rattle.cg_model.specs.Admission.{first_refusal}
 use Rattle.cg_model.specs.Step.{happens}
 
--- the call that is to fail is counted from 1
+-- the call that is to fail, or in which a recovery is to be stopped, is counted from 1
 abbrev pub IsCounted : Event → Type 0
 IsCounted (Fail p call) = 1 ≤ call
+IsCounted (RecoverStopped p call fill) = 1 ≤ call
 IsCounted other = Unit {0}
 
 -- where there is a reason the event isn't admitted

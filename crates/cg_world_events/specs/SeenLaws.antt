@@ -2,13 +2,17 @@
 use Rattle.std.specs.Prelude.{◌≡◌, List, ℕ, [], Some, unwrap_or}
 use Rattle.std.proofs.Common.{ap, ◌∙◌}
 use Rattle.cg_disk.specs.Crashes.{clean_disk}
-use Rattle.cg_disk.specs.State.{DiskState}
+use Rattle.cg_disk.specs.State.{DiskState, left_by}
 use Rattle.cg_disk.specs.View.{DiskView}
 use Rattle.cg_client.specs.Replica.{fresh_held}
-use Rattle.cg_store.specs.Stands.{OnDisk, Stands, created, disk_of}
+use Rattle.cg_store.specs.Stands.{OnDisk, Stands, created}
+use Rattle.cg_store.specs.Formats.{Standing, StandsFor, newer, disk_in}
+use Rattle.cg_store.specs.NewerLaws.{stands_newer}
 use Rattle.cg_engine.specs.Engines.{Up as UpEngine, Fallen, told}
 use Rattle.cg_engine.specs.Defined.{account}
-use Rattle.cg_world_events.specs.Seen.{standing_at, state_at, disk_seen, disk_left, green_left}
+use Rattle.cg_world_events.specs.Seen.{standing_at, resting_at, state_at, disk_seen, disk_left, green_left, down_seen, FallsTo, fallen}
+use Rattle.cg_model.specs.World.{Down}
+use Rattle.cg_world_events.specs.Calls.{node}
 
 pub standing-at : {D : Type 0} → (view : D → DiskView) → (id : ℕ) (disk : D) (u : OnDisk) →
     Stands id (view disk).reads u → standing_at id (view disk).reads ≡ u
@@ -28,12 +32,25 @@ disk-seen view e fill u s stands told =
     ∙ ap (λ (x : DiskState). account e.store.unwritten u (view e.store.disk).time fill x) (state-at
     view e.store.disk s told)
 
-pub disk-left : {D : Type 0} → (view : D → DiskView) → (w : Fallen D) (u : OnDisk) → Stands w.id (view w.disk).reads u →
-    disk_left view w ≡ disk_of [] u
-unfolding disk_left
-disk-left view w u stands = ap (λ (x : OnDisk). disk_of [] x) (standing-at view w.id w.disk u stands)
+pub resting-at : {D : Type 0} → (view : D → DiskView) → (id : ℕ) (disk : D) (s : Standing) →
+    StandsFor id (view disk).reads s → resting_at id (view disk).reads ≡ s
+resting-at view id disk s stands = ap (λ found. unwrap_or found (newer (created (fresh_held 1 [])))) stands
 
-pub green-left : {D : Type 0} → (view : D → DiskView) → (w : Fallen D) (u : OnDisk) →
-    Stands w.id (view w.disk).reads u → green_left view w ≡ told w u.content
+pub disk-left : {D : Type 0} → (view : D → DiskView) → (w : Fallen D) (s : Standing) →
+    StandsFor w.id (view w.disk).reads s → disk_left view w ≡ disk_in [] s
+unfolding disk_left
+disk-left view w s stands = ap (λ (x : Standing). disk_in [] x) (resting-at view w.id w.disk s stands)
+
+pub green-left : {D : Type 0} → (view : D → DiskView) → (w : Fallen D) (s : Standing) →
+    StandsFor w.id (view w.disk).reads s → green_left view w ≡ told w s.on.content
 unfolding green_left
-green-left view w u stands = ap (λ (x : OnDisk). told w x.content) (standing-at view w.id w.disk u stands)
+green-left view w s stands = ap (λ (x : Standing). told w x.on.content) (resting-at view w.id w.disk s stands)
+
+pub down-seen : {D : Type 0} → (view : D → DiskView) → (w : Fallen D) (s : Standing) →
+    StandsFor w.id (view w.disk).reads s → down_seen view w ≡ fallen w s
+down-seen view w s stands = λ i. node w.id (Down (disk-left view w s stands i) (green-left view w s stands i))
+
+-- a crash that leaves the newer header on both sides
+pub falls-newer : {D : Type 0} → (view : D → DiskView) → (w : Fallen D) (fill : List ℕ) (u : OnDisk) →
+    Stands w.id (left_by (state_at (view w.disk)) fill) u → FallsTo view w fill (newer u)
+falls-newer view w fill u stands = stands_newer w.id (left_by (state_at (view w.disk)) fill) u stands

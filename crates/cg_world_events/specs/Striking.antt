@@ -11,6 +11,11 @@ use Rattle.cg_world_events.specs.StepInProgress.{hosted}
 abbrev pub returned : World → Node → World
 returned w s = let back = hosted w (risen w.made s.id s.life).0 in record back { group = come_up w.group s.id }
 
+-- the replica is back: it has come up where something is to be shown of that, and else it is down
+abbrev pub back_with : World → Node × Option EventEffects → World
+back_with w (s, Some news) = let back = hosted w s in record back { group = come_up w.group s.id }
+back_with w (s, None) = hosted w s
+
 -- what is to be shown of a recovery, where something is
 abbrev pub telling : World → Option EventEffects → StepInProgress
 telling w None = quietly w

@@ -1,14 +1,15 @@
 //! Why an event isn't admitted: the tests that the world makes itself, before those of its group.
-ghost use Rattle.std.specs.Prelude.{◌≡◌, ◌∷◌, []};
+ghost use Rattle.std.specs.Prelude.{◌≡◌, ◌∷◌, [], false, is_some, IfOk};
 ghost use Rattle.cg_base.specs.Lists.{first_some};
 ghost use Rattle.cg_base.specs.Sets.{IsSet};
 ghost use Rattle.cg_group.specs.Refusals.{any_of, empty_set, not_up};
-ghost use Rattle.cg_model.specs.Admission.{unknown, has_left, joiner_left, never_named, not_green, takes_part};
+ghost use Rattle.cg_model.specs.Admission.{unknown, has_left, joiner_left, never_named, not_green, is_weighted, cannot_rise, takes_part};
+ghost use Rattle.cg_model.specs.World.{replica_of};
 ghost use Rattle.cg_model.specs.AdmissionCalls.{already_up, begun_already, id_used};
 ghost use Rattle.cg_world_events.specs.Happening.{admits};
 
 use crate::WorldState;
-use cg_base::{IdSet, ReplicaId};
+use cg_base::{IdSet, NoMemory, ReplicaId};
 use cg_group::{GroupErr, Reason};
 
 // Where there is a reason the event isn't admitted.
@@ -90,10 +91,19 @@ pub(crate) fn takes_part(state: &WorldState, p: ReplicaId) -> Option<Reason>
 }
 
 // Why the replica can't come up again.
-pub(crate) fn not_down(state: &WorldState, p: ReplicaId) -> Option<Reason>
-    ensures { result ≡ first_some (unknown state.now p ∷ already_up state.now p ∷ []) }
+pub(crate) fn cannot_rise(state: &WorldState, p: ReplicaId) -> Option<Reason>
+    ensures { result ≡ cannot_rise state.now p }
 {
     first_of(&[unknown(state, p), already_up(state, p)])
+}
+
+// A weight above 1 stands on the disk of a replica that is down.
+pub(crate) fn is_weighted(state: &WorldState, p: ReplicaId) -> Result<Option<Reason>, NoMemory>
+    requires { is_some (replica_of state.now p) ≡ false }
+    ensures { IfOk result (λ reason. reason ≡ is_weighted state.now p) }
+{
+    let weighted = state.has_weights(p)?;
+    Ok(weighted.then_some(Reason::Weighted(p)))
 }
 
 // Why the replica can't create the join of a new server.

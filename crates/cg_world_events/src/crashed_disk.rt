@@ -1,9 +1,13 @@
-ghost use Rattle.std.specs.Prelude.{◌≡◌};
+ghost use Rattle.std.specs.Prelude.{◌≡◌, false, IfOk};
+ghost use Rattle.cg_older.specs.Older.{has_weights};
+ghost use Rattle.cg_older.specs.OldDisk.{old_disk};
+ghost use Rattle.cg_world_events.specs.Seen.{disk_left, green_left};
 ghost use Rattle.cg_world_events.specs.CrashedDisk.{IsCrashedDisk};
 
-use cg_base::ReplicaId;
+use cg_base::{NoMemory, ReplicaId};
 use cg_disk::{Disk, ModelDisk};
 use cg_engine::Wreck;
+use std::alloc::Global;
 use std::marker::Model;
 
 /// A wreck whose disk stands for a state, with nothing unsynced on it and nothing armed. Clauses see the wreck.
@@ -43,6 +47,25 @@ impl CrashedDisk {
     {
         let CrashedDisk { wreck } = self;
         wreck
+    }
+
+    // A weight above 1 stands on the disk.
+    pub(crate) fn has_weights(&self) -> Result<bool, NoMemory>
+        ensures { IfOk result (λ b. b ≡ has_weights (disk_left (⟦<ModelDisk as Disk>⟧.view) self.now).content) }
+    {
+        self.wreck.is_weighted()
+    }
+
+    // In place of the disk, on which no weight above 1 stands, there is a new one of the older format, which stands for the
+    // same.
+    pub(crate) fn downgraded(self, alloc: Global) -> Result<CrashedDisk, NoMemory>
+        requires { has_weights (disk_left (⟦<ModelDisk as Disk>⟧.view) self).content ≡ false }
+        ensures { IfOk result (λ r. (r.id ≡ self.id)
+            × (disk_left (⟦<ModelDisk as Disk>⟧.view) r ≡ old_disk (disk_left (⟦<ModelDisk as Disk>⟧.view) self).content)
+            × (green_left (⟦<ModelDisk as Disk>⟧.view) r ≡ green_left (⟦<ModelDisk as Disk>⟧.view) self)) }
+    {
+        let wreck = self.into_wreck().downgraded(alloc)?;
+        Ok(CrashedDisk::new(wreck))
     }
 
     pub(crate) fn id(&self) -> ReplicaId

@@ -11,7 +11,8 @@ use crate::beginning::start;
 use crate::grouping::{deliver, gather, merge, order, receive, split};
 use crate::handing::transfer;
 use crate::querying::{dirty, show, show_order, weak};
-use crate::striking::{fail, recover, stop};
+use crate::recovering::{downgrade, recover, recover_stopped};
+use crate::striking::{fail, stop};
 use cg_group::GroupErr;
 use cg_schedule::Event;
 use std::alloc::Global;
@@ -37,6 +38,8 @@ pub fn happen(alloc: Global, going: &mut StepInProgress, event: &Event) -> Resul
         Event::Dirty { p, query } => dirty(alloc, going, *p, query),
         Event::Order(p) => order(going, *p),
         Event::Recover(p) => recover(alloc, going, *p),
+        Event::RecoverStopped { p, call, fill } => recover_stopped(alloc, going, *p, *call, fill),
+        Event::Downgrade(p) => downgrade(alloc, going, *p),
         Event::Show(p) => show(alloc, going, *p),
         Event::ShowOrder => show_order(alloc, going),
         Event::Gather => gather(going),

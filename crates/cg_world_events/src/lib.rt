@@ -29,6 +29,7 @@ mod node_state;
 mod nodes;
 mod position;
 mod querying;
+mod recovering;
 mod rising;
 mod snapshot_counts;
 mod state;

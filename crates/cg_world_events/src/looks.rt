@@ -5,7 +5,7 @@ ghost use Rattle.cg_client.specs.Queries.{weak_answer, dirty_answer};
 ghost use Rattle.cg_report.specs.declared.entry.Shown.TheVariants.{Weak as ShownWeak, Dirty as ShownDirty};
 ghost use Rattle.cg_disk_records.specs.Holds.{Holds};
 ghost use Rattle.cg_model.specs.World.{running};
-ghost use Rattle.cg_world_events.specs.Calls.{creates_in, line_in, is_gone, knows_left, knows_server, shows, shows_weak, shows_dirty};
+ghost use Rattle.cg_world_events.specs.Calls.{creates_in, weighs, line_in, is_gone, knows_left, knows_server, shows, shows_weak, shows_dirty};
 
 use crate::Node;
 use crate::node_state::NodeState;
@@ -36,6 +36,16 @@ impl Node {
         match &self.life {
             NodeState::Up { .. } => true,
             NodeState::Down(_) => false,
+        }
+    }
+
+    /// It is down, and a weight above 1 stands on its disk.
+    pub fn has_weights(&self) -> Result<bool, NoMemory>
+        ensures { IfOk result (λ b. b ≡ weighs self.now.life) }
+    {
+        match &self.life {
+            NodeState::Up { .. } => Ok(false),
+            NodeState::Down(resting) => resting.has_weights(),
         }
     }
 

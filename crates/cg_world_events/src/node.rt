@@ -1,6 +1,6 @@
 ghost use Rattle.std.specs.Prelude.{◌≡◌, ◌≤◌, ◌+◌, IfOk};
 ghost use Rattle.cg_base.specs.declared.limits.TheConstants.{COUNT_LIMIT};
-ghost use Rattle.cg_store.specs.Stands.{OnDisk};
+ghost use Rattle.cg_store.specs.Formats.{Standing};
 ghost use Rattle.cg_world_events.specs.Seen.{seen, up_seen, down_seen, FallsTo, fallen};
 ghost use Rattle.cg_world_events.specs.declared.limits.TheConstants.{RECOVERY_CALLS};
 
@@ -59,10 +59,10 @@ impl Node {
     // The wreck of a replica that is up has its crash, which leaves these bytes in places that weren't synced. It takes
     // memory for the bytes of the disk alone.
     pub(crate) fn fall(wreck: Wreck<ModelDisk>, fill: &[u8]) -> Result<Node, NoMemory>
-        requires falls { (u : OnDisk) × FallsTo (⟦<ModelDisk as Disk>⟧.view) wreck fill.now u }
+        requires falls { (s : Standing) × FallsTo (⟦<ModelDisk as Disk>⟧.view) wreck fill.now s }
         requires room { (⟦<ModelDisk as Disk>⟧.view wreck.disk).time + RECOVERY_CALLS ≤ COUNT_LIMIT }
-        ensures { IfOk result (λ s. (u : OnDisk) →
-            FallsTo (⟦<ModelDisk as Disk>⟧.view) wreck fill.now u → s ≡ fallen wreck u) }
+        ensures { IfOk result (λ n. (s : Standing) →
+            FallsTo (⟦<ModelDisk as Disk>⟧.view) wreck fill.now s → n ≡ fallen wreck s) }
     {
         let wreck = wreck.image(fill)?;
         Ok(Node::down(CrashedDisk::new(wreck)))

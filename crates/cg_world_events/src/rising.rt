@@ -1,12 +1,15 @@
 //! Strikes are armed, a replica goes down, it comes up again, and its disk is handed out.
-ghost use Rattle.std.specs.Prelude.{◌≡◌, ◌≤◌, List, ℕ, [], Some, IfOk};
+ghost use Rattle.std.specs.Prelude.{◌≡◌, ◌≤◌, List, ℕ, [], Some, None, false, IfOk};
 ghost use Rattle.cg_disk_records.specs.Crash.{FailOnce, StopWith};
 ghost use Rattle.cg_model.specs.Show.{news_of_recovery};
 ghost use Rattle.cg_model.specs.World.{node_disk};
-ghost use Rattle.cg_world_events.specs.Calls.{armed, crashed, risen};
+ghost use Rattle.cg_world_events.specs.Calls.{armed, crashed, risen, risen_under, weighs, downgraded};
 ghost use Rattle.cg_world_events.specs.CrashedDisk.{IsCrashedDisk};
 ghost use Rattle.cg_world_events.specs.DiskOut.{HoldsDisk};
-ghost use Rattle.cg_world_events.specs.Seen.{up_seen, down_seen};
+ghost use Rattle.cg_disk.specs.Crashes.{Disarms};
+ghost use Rattle.cg_store.specs.Formats.{Standing};
+ghost use Rattle.cg_engine.specs.Engines.{IsSame};
+ghost use Rattle.cg_world_events.specs.Seen.{up_seen, down_seen, FallsTo, fallen};
 
 use crate::crashed_disk::CrashedDisk;
 use crate::limits::CALLS_BEFORE_CRASH;
@@ -76,6 +79,44 @@ impl Node {
         }
     }
 
+    /// The same, unless it is stopped in the device call of this number, from 1 for the next one, which leaves these bytes in
+    /// places that weren't synced: then it stays down, and its disk stands for what it stood for. `NoMemory` too where the
+    /// disk has made so many calls that those of another recovery might go past 2^62.
+    pub fn recover_stopped(
+        self,
+        alloc: Global,
+        call: u64,
+        fill: &[u8],
+        made: &Cut,
+    ) -> Result<(Node, Option<EventEffects>), NoMemory>
+        requires { 1 ≤ call }
+        ensures { IfOk result (λ x. x ≡
+            risen_under made.now self.id (record { call = call; fault = StopWith fill.now }) self.life) }
+    {
+        match self.into_life() {
+            NodeState::Up {
+                engine,
+                fill: armed,
+            } => Ok((Node::up(engine, armed), None)),
+            NodeState::Down(resting) => rise_under(alloc, resting, call, fill, made),
+        }
+    }
+
+    /// In place of its disk, where it is down and no weight above 1 stands there, there is one of the older format, which
+    /// stands for the same.
+    pub fn downgrade(self, alloc: Global) -> Result<Node, NoMemory>
+        requires { weighs self.life ≡ false }
+        ensures { IfOk result (λ s. s ≡ downgraded self.id self.life) }
+    {
+        match self.into_life() {
+            NodeState::Up { engine, fill } => Ok(Node::up(engine, fill)),
+            NodeState::Down(resting) => {
+                let resting = resting.downgraded(alloc)?;
+                Ok(Node::down(resting))
+            }
+        }
+    }
+
     /// Its disk as a crash now leaves it, with nothing in the places that weren't synced. `NoMemory` too where a crash has it.
     pub fn into_disk(self) -> Result<ModelDisk, NoMemory>
         ensures { IfOk result (λ disk. HoldsDisk self.id (node_disk self.life) (⟦<ModelDisk as Disk>⟧.view disk)) }
@@ -138,6 +179,31 @@ fn rise(
     }
 }
 
+// The same with a stop armed in the call of this number.
+fn rise_under(
+    alloc: Global,
+    resting: CrashedDisk,
+    call: u64,
+    fill: &[u8],
+    made: &Cut,
+) -> Result<(Node, Option<EventEffects>), NoMemory>
+    requires { 1 ≤ call }
+    ensures { IfOk result (λ x. x ≡ risen_under made.now resting.id (record { call = call; fault = StopWith fill.now })
+        (down_seen (⟦<ModelDisk as Disk>⟧.view) resting).life) }
+{
+    let mut wreck = resting.into_wreck();
+    wreck.stop_at(call);
+    match Engine::recover(alloc, wreck) {
+        Recovered::Running { engine, green } => go_up(disarmed(engine), green, made),
+        Recovered::Down(lost) => stay_down(lost, fill),
+        Recovered::NotAStore(_) => unreachable!(),
+        Recovered::NoMemory(lost) => {
+            drop(lost);
+            Err(NoMemory)
+        }
+    }
+}
+
 // The engine that has come up, and what is to be shown of that.
 fn go_up(
     engine: Engine<ModelDisk>,
@@ -157,4 +223,28 @@ fn go_up(
             Err(NoMemory)
         }
     }
+}
+
+// Nothing is armed on its disk any more.
+fn disarmed(engine: Engine<ModelDisk>) -> Engine<ModelDisk>
+    ensures disk { Disarms (⟦<ModelDisk as Disk>⟧.view engine.store.disk) (⟦<ModelDisk as Disk>⟧.view result.store.disk) }
+    ensures rest { IsSame engine result }
+{
+    let mut engine = engine;
+    engine.disarm();
+    engine
+}
+
+// A replica whose recovery was stopped is down, with these bytes in the places that weren't synced.
+fn stay_down(wreck: Wreck<ModelDisk>, fill: &[u8]) -> Result<(Node, Option<EventEffects>), NoMemory>
+    requires { (s : Standing) × FallsTo (⟦<ModelDisk as Disk>⟧.view) wreck fill.now s }
+    ensures { IfOk result (λ x. (s : Standing) → FallsTo (⟦<ModelDisk as Disk>⟧.view) wreck fill.now s →
+        x ≡ (fallen wreck s, None)) }
+{
+    if wreck.calls() > CALLS_BEFORE_CRASH {
+        drop(wreck);
+        return Err(NoMemory);
+    }
+    let node = Node::fall(wreck, fill)?;
+    Ok((node, None))
 }

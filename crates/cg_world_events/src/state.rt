@@ -8,9 +8,10 @@ ghost use Rattle.cg_group.specs.Ready.{ready};
 ghost use Rattle.cg_group.specs.Events.{send_all};
 ghost use Rattle.cg_base.specs.Lists.{first_some};
 ghost use Rattle.cg_group.specs.Refusals.{not_up};
+ghost use Rattle.cg_older.specs.Older.{has_weights};
 ghost use Rattle.cg_model.specs.Admission.{takes_part, unknown};
 ghost use Rattle.cg_model.specs.Places.{creates};
-ghost use Rattle.cg_model.specs.World.{NodeState, no_world, running, node_of, set_life, has_begun, replica_of, is_left, left_replicas, up_replicas};
+ghost use Rattle.cg_model.specs.World.{NodeState, no_world, running, node_of, disk_at, set_life, has_begun, replica_of, is_left, left_replicas, up_replicas};
 ghost use Rattle.cg_model.specs.Show.{line_of};
 ghost use Rattle.cg_model.specs.Touched.{new_lines_of};
 ghost use Rattle.cg_world_events.specs.StepInProgress.{said, hosted, fallen, with_news};
@@ -112,6 +113,17 @@ impl WorldState {
         match self.nodes.find(p) {
             Some(node) => node.is_up(),
             None => false,
+        }
+    }
+
+    /// A weight above 1 stands on the replica's disk, where it is down.
+    pub(crate) fn has_weights(&self, p: ReplicaId) -> Result<bool, NoMemory>
+        requires { is_some (replica_of self.now p) ≡ false }
+        ensures { IfOk result (λ b. b ≡ option_map_or (λ d. has_weights d.content) (disk_at self.now p) false) }
+    {
+        match self.nodes.find(p) {
+            Some(node) => node.has_weights(),
+            None => Ok(false),
         }
     }
 

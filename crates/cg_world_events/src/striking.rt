@@ -1,19 +1,15 @@
-//! Crashes, faults of devices, and the way back.
-ghost use Rattle.std.specs.Prelude.{◌≡◌, ◌≤◌, false, [], is_some, IfOk, OnOk};
-ghost use Rattle.cg_group.specs.State.{is_up};
+//! Crashes, and faults of devices.
+ghost use Rattle.std.specs.Prelude.{◌≡◌, ◌≤◌, [], OnOk};
 ghost use Rattle.cg_disk_records.specs.Crash.{FailOnce, StopWith};
-ghost use Rattle.cg_schedule.specs.declared.event.Event.TheVariants.{Stop, Fail, Recover};
-ghost use Rattle.cg_world_events.specs.Calls.{crashed, risen};
-ghost use Rattle.cg_model.specs.World.{replica_of};
-ghost use Rattle.cg_model.specs.Step.{arm, stop, recover};
-ghost use Rattle.cg_world_events.specs.Grounds.{IsHosted};
+ghost use Rattle.cg_schedule.specs.declared.event.Event.TheVariants.{Stop, Fail};
+ghost use Rattle.cg_world_events.specs.Calls.{crashed};
+ghost use Rattle.cg_model.specs.Step.{arm, stop};
 ghost use Rattle.cg_world_events.specs.Happening.{Happens};
 ghost use Rattle.cg_world_events.specs.StepInProgress.{IsQuiet, hosted, fallen};
-ghost use Rattle.cg_world_events.specs.Striking.{returned, telling};
 
-use crate::admission::{admit, not_down, takes_part};
+use crate::admission::{admit, takes_part};
 use crate::nodes::BoxedNode;
-use crate::{EventEffects, Node, StepInProgress, WorldState};
+use crate::{StepInProgress, WorldState};
 use cg_base::{Bytes, NoMemory, ReplicaId, Row};
 use cg_group::GroupErr;
 use std::alloc::Global;
@@ -109,61 +105,4 @@ fn arm_fail(state: &mut WorldState, p: ReplicaId, call: u64) -> Result<(), NoMem
         }
         None => Ok(()),
     }
-}
-
-// The replica comes back from its disk.
-#[tactic(auto, unfolding(cg_model::specs::Admission::first_refusal, cg_model::specs::Step::happens))]
-pub(crate) fn recover(
-    alloc: Global,
-    going: &mut StepInProgress,
-    p: ReplicaId,
-) -> Result<(), GroupErr>
-    requires quiet { IsQuiet going.old }
-    requires hosted { IsHosted going.old.world }
-    ensures { Happens going.old (Recover p) going.new result }
-{
-    admit(not_down(&going.state, p))?;
-    recover_down(alloc, going, p)?;
-    Ok(())
-}
-
-fn recover_down(alloc: Global, going: &mut StepInProgress, p: ReplicaId) -> Result<(), NoMemory>
-    requires quiet { IsQuiet going.old }
-    requires hosted { IsHosted going.old.world }
-    requires down { is_some (replica_of going.old.world p) ≡ false }
-    ensures { OnOk result (going.new ≡ recover going.old.world p) }
-{
-    let news = come_up(alloc, &mut going.state, p)?;
-    match news {
-        Some(news) => going.tell(news),
-        None => Ok(()),
-    }
-}
-
-// The replica comes up, with what is to be shown of that.
-fn come_up(
-    alloc: Global,
-    state: &mut WorldState,
-    p: ReplicaId,
-) -> Result<Option<EventEffects>, NoMemory>
-    requires hosted { IsHosted state.old }
-    requires down { is_some (replica_of state.old p) ≡ false }
-    ensures { IfOk result (λ news. telling state.new news ≡ recover state.old p) }
-{
-    match state.nodes.take(p) {
-        Some(node) => rise(alloc, state, node),
-        None => Ok(None),
-    }
-}
-
-fn rise(alloc: Global, state: &mut WorldState, node: Node) -> Result<Option<EventEffects>, NoMemory>
-    requires { is_up state.old.group node.id ≡ false }
-    ensures { IfOk result (λ news. (state.new ≡ returned state.old node)
-        × (news ≡ (risen state.old.made node.id node.life).1)) }
-{
-    let id = node.id();
-    let (node, news) = node.recover(alloc, &state.made.get())?;
-    state.nodes.put(node)?;
-    state.group.add(id)?;
-    Ok(news)
 }

@@ -10,7 +10,7 @@ ghost use Rattle.cg_model.specs.Recorded.{AreBooked};
 ghost use Rattle.cg_model.specs.ReplicaStep.{Deliveries, Asks};
 ghost use Rattle.cg_model.specs.World.{Up};
 ghost use Rattle.cg_world_events.specs.Calls.{begun, taken, IsBookedFor};
-ghost use Rattle.cg_store.specs.Stands.{OnDisk};
+ghost use Rattle.cg_store.specs.Formats.{Standing};
 ghost use Rattle.cg_world_events.specs.Seen.{disk_seen, up_seen, down_seen, FallsTo, fallen, said};
 ghost use Rattle.cg_world_events.specs.declared.limits.TheConstants.{EVENT_CALLS, RECOVERY_CALLS};
 
@@ -193,10 +193,10 @@ fn fall(
     wreck: Wreck<ModelDisk>,
     fill: Bytes,
 ) -> Result<(BoxedNode, Option<NodeOutput>), NoMemory>
-    requires falls { (u : OnDisk) × FallsTo (⟦<ModelDisk as Disk>⟧.view) wreck fill u }
+    requires falls { (s : Standing) × FallsTo (⟦<ModelDisk as Disk>⟧.view) wreck fill s }
     requires room { (⟦<ModelDisk as Disk>⟧.view wreck.disk).time + RECOVERY_CALLS ≤ COUNT_LIMIT }
-    ensures { IfOk result (λ x. (u : OnDisk) → FallsTo (⟦<ModelDisk as Disk>⟧.view) wreck fill u →
-        x ≡ (fallen wreck u, None)) }
+    ensures { IfOk result (λ x. (s : Standing) → FallsTo (⟦<ModelDisk as Disk>⟧.view) wreck fill s →
+        x ≡ (fallen wreck s, None)) }
 {
     let node = Node::fall(wreck, fill.as_slice())?;
     let node = BoxedNode::new(alloc, node)?;

@@ -17,6 +17,8 @@ pub fn touched(event: &Event) -> IdSet
         Event::Merge(set) => *set,
         Event::Request { p, .. } => IdSet::single(*p),
         Event::Recover(p) => IdSet::single(*p),
+        Event::RecoverStopped { p, .. } => IdSet::single(*p),
+        Event::Downgrade(p) => IdSet::single(*p),
         Event::Deliver { p, .. } => IdSet::single(*p),
         Event::Stop { p, .. } => IdSet::single(*p),
         Event::Fail { p, .. } => IdSet::single(*p),

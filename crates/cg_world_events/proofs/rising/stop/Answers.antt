@@ -1,7 +1,7 @@
 use Rattle.std.proofs.Common.{◌≡◌, refl, ◌∙◌, List, [], ℕ}
 use Rattle.cg_disk.specs.Law.{is_view_of}
 use Rattle.cg_disk.specs.Model.{view_of, state_of}
-use Rattle.cg_store.specs.Stands.{OnDisk}
+use Rattle.cg_store.specs.Formats.{Standing, newer}
 use Rattle.cg_world_events.specs.Calls.{crashed}
 use Rattle.cg_world_events.specs.Seen.{FallsTo, fallen, up_seen}
 use Rattle.cg_world_events.proofs.Crashing.{falls_to, falls_seen, if_ok_then}
@@ -11,7 +11,7 @@ pub fall-requires-clause-falls : goal.fall-requires-clause-falls
 fall-requires-clause-falls c =
     let e = c.args.engine in
     let follows = c.holds.ensures.follows in
-    (follows.standing, falls_to view_of e c.stop.result c.stop.ensures (is_view_of e.store.disk) c.holds.ensures.rest (state_of e.store.disk) refl follows.standing follows.stands)
+    (newer follows.standing, falls_to view_of e c.stop.result c.stop.ensures (is_view_of e.store.disk) c.holds.ensures.rest (state_of e.store.disk) refl follows.standing follows.stands)
 
 pub returns : goal.returns
 returns c =
@@ -20,5 +20,5 @@ returns c =
     let follows = c.holds.ensures.follows in
     let u = follows.standing in
     let falls = falls_to view_of e w c.stop.ensures (is_view_of e.store.disk) c.holds.ensures.rest (state_of e.store.disk) refl u follows.stands in
-    if_ok_then c.fall.result (λ s. (u : OnDisk) → FallsTo view_of w [] u → s ≡ fallen w u) (λ s. (fill : List ℕ) → s ≡ crashed e.store.id (up_seen view_of e fill).life)
-    (λ s is fill. is u falls ∙ falls_seen view_of e w c.stop.ensures (is_view_of e.store.disk) c.holds.ensures.rest (state_of e.store.disk) refl u follows.stands fill) c.fall.ensures
+    if_ok_then c.fall.result (λ n. (s : Standing) → FallsTo view_of w [] s → n ≡ fallen w s) (λ s. (fill : List ℕ) → s ≡ crashed e.store.id (up_seen view_of e fill).life)
+    (λ s is fill. is (newer u) falls ∙ falls_seen view_of e w c.stop.ensures (is_view_of e.store.disk) c.holds.ensures.rest (state_of e.store.disk) refl u follows.stands fill) c.fall.ensures

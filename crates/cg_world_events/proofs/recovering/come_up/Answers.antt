@@ -5,7 +5,7 @@ use Rattle.cg_world_events.specs.Grounds.{IsHosted}
 use Rattle.cg_world_events.specs.Striking.{telling}
 use Rattle.cg_world_events.specs.contracts.state.WorldState.{the_view}
 use Rattle.cg_world_events.proofs.StruckNodes.{down-outside, recover-done}
-use Rattle.cg_world_events.proofs.striking.come_up.Goals as goal
+use Rattle.cg_world_events.proofs.recovering.come_up.Goals as goal
 
 pub rise-requires : goal.rise-requires
 rise-requires c =
