@@ -4,68 +4,68 @@ use mathlib.Core.Path.{refl}
 use Rattle.cg_run_cases.specs.Replaying.{replayed_text, written}
 use Rattle.cg_run_cases.specs.Computing.{cases_compute}
 
--- Replicas at the start: 4: a primary is lost in a partition, and after a merge red actions are ordered; a crash strikes inside a device call.
-four_replicas_primary_lost_and_reds_ordered_crash_in_a_device_call_d_from_discarding :
+-- Replicas at the start: 4: a primary is formed; a crash strikes inside a device call.
+four_replicas_primary_formed_crash_in_a_device_call_a :
     replayed_text (
     "start 1 2 3 4" ∷
     "merge 1 2 3 4" ∷
-    "rounds 3" ∷
+    "order 4" ∷
+    "request 2 need \"ab\" \"yes \\\"no\\\"\"" ∷
+    "request 2 inc \"y\" 10; need \"z\" 65" ∷
+    "request 1 need \"x\" absent; inc \"x\" 9223372036854775807; put \"z\" 10 ? get \"z\"" ∷
+    "gather" ∷
+    "request 1 need \"k2\" 8 ? keys \"x\"" ∷
     "rounds 1" ∷
-    "gather" ∷
-    "request 2 inc \"x\" 0" ∷
-    "request 4 inc \"k1\" 6" ∷
-    "request 2 put \"z\" -9223372036854775808" ∷
-    "request 1 put \"abc\" 9223372036854775806" ∷
-    "request 2 move \"k1\" \"z\" 9223372036854775807 ? get \"abc\"" ∷
-    "request 3 ? get \"y\"" ∷
+    "request 4 inc \"a\" 7" ∷
+    "stop 4 9 02" ∷
+    "rounds 1" ∷
+    "request 4 cas \"a\" absent 74; put \"abc\" 68" ∷
+    "request 1 inc \"z\" 2" ∷
+    "request 3 move \"y\" \"x\" 1" ∷
+    "request 2 cas \"z\" 99 43" ∷
+    "stop 2 8 01" ∷
     "rounds 3" ∷
+    "stop 2 5 -" ∷
+    "request 2 put \"a\" 58" ∷
     "gather" ∷
-    "request 2 put \"abc\" 9 ? count" ∷
-    "request 3 inc \"z\" 7" ∷
-    "request 3 inc \"a\" -2" ∷
-    "order 3" ∷
-    "split 1 2 4" ∷
-    "merge 1 2 4" ∷
-    "join 3 9" ∷
-    "rounds 2" ∷
-    "rounds 2" ∷
-    "join 3 15" ∷
-    "request 1 del \"y\"" ∷
-    "stop 2 1 010101010101010101" ∷
-    "gather" ∷
-    "deliver 1 1" ∷
-    "stop 1 3 0101010101010101010101010101010101010101" ∷
-    "rounds 3" ∷
-    "dirty 1 get \"z\"" ∷
-    "gather" ∷
-    "join 1 5" ∷
-    "recover 1" ∷
-    "request 3 inc \"abc\" 1" ∷
-    "request 3 cas \"y\" absent 80 ? get \"y\"" ∷
-    "gather" ∷
-    "show 1" ∷
-    "leave 3 1" ∷
-    "merge 1" ∷
-    "request 4 put \"b\" 81 ? get \"y\"" ∷
-    "split 3" ∷
-    "split 4" ∷
-    "split 1" ∷
-    "merge 1 3 4" ∷
-    "rounds 4" ∷
-    "split 1 3 4" ∷
-    "merge 1 3 4" ∷
-    "request 3 put \"y\" 93" ∷
-    "join 4 6" ∷
-    "rounds 3" ∷
-    "rounds 3" ∷
-    "fail 1 4" ∷
-    "request 4 need \"a\" absent" ∷
-    "leave 3 3" ∷
-    "request 4 inc \"z\" 8; put \"k1\" 25" ∷
-    "join 3 7" ∷
-    "stop 4 0 -" ∷
+    "stop 2 3 0101010101010101010101010101010101010101" ∷
+    "stop 2 0 01" ∷
     "recover 4" ∷
-    "order 3" ∷
+    "stop 3 9 01" ∷
+    "gather" ∷
+    "stop 4 0 0185f6010101019701" ∷
+    "stop 3 0 01" ∷
+    "recover 3" ∷
+    "recover 2" ∷
+    "rounds 1" ∷
+    "request 3 cas \"y\" absent -1" ∷
+    "recover 4" ∷
+    "gather" ∷
+    "rounds 2" ∷
+    "request 3 del \"a\"" ∷
+    "request 4 move \"abc\" \"y\" 3 ? get \"ab\"" ∷
+    "request 3 inc \"a\" 8" ∷
+    "request 4 cas \"x\" absent 97 ? get \"y\"" ∷
+    "show order" ∷
+    "request 2 inc \"x\" 4 ? get \"k1\"" ∷
+    "gather" ∷
+    "rounds 3" ∷
+    "request 1 cas \"a\" absent 63" ∷
+    "request 1 put \"x\" \"absent\" ? get \"abc\"" ∷
+    "request 3 inc \"a\" 9223372036854775807 ? keys \"q\"" ∷
+    "gather" ∷
+    "request 1 put \"a\" -3" ∷
+    "request 3 del \"z\"" ∷
+    "request 3 del \"abc\" ? keys \"ab\"" ∷
+    "gather" ∷
+    "rounds 3" ∷
+    "stop 3 0 01" ∷
+    "stop 4 0 0101010101010101010101010101010101010101" ∷
+    "recover 4" ∷
+    "recover 3" ∷
+    "stop 1 0 01" ∷
+    "recover 1" ∷
+    "rounds 2" ∷
     "end" ∷
     [])
     ≡ written (
@@ -80,437 +80,435 @@ four_replicas_primary_lost_and_reds_ordered_crash_in_a_device_call_d_from_discar
     "3 ExchangeStates c1 g0 w0 p0@0{1,2,3,4} a0 v- y- r[] o[] x{} b0" ∷
     "4 ExchangeStates c1 g0 w0 p0@0{1,2,3,4} a0 v- y- r[] o[] x{} b0" ∷
     "= 4" ∷
-    "1 Construct c1 g0 w0 p0@0{1,2,3,4} a1 v1/0{1,2,3,4}{1} y- r[] o[] x{} b0" ∷
+    "2 ExchangeStates c1 g0 w0 p0@0{1,2,3,4} a0 v- y- r[] o[] x{} b1" ∷
     "= 5" ∷
-    "2 Construct c1 g0 w0 p0@0{1,2,3,4} a1 v1/0{1,2,3,4}{2} y- r[] o[] x{} b0" ∷
+    "2 ExchangeStates c1 g0 w0 p0@0{1,2,3,4} a0 v- y- r[] o[] x{} b2" ∷
     "= 6" ∷
-    "3 Construct c1 g0 w0 p0@0{1,2,3,4} a1 v1/0{1,2,3,4}{3} y- r[] o[] x{} b0" ∷
-    "= 7" ∷
-    "4 Construct c1 g0 w0 p0@0{1,2,3,4} a1 v1/0{1,2,3,4}{4} y- r[] o[] x{} b0" ∷
-    "= 9" ∷
-    "1 RegPrim c1 g0 w0 p1@1{1,2,3,4} a0 v1/0{1,2,3,4}{1} y- r[] o[] x{} b0" ∷
+    "1 ExchangeStates c1 g0 w0 p0@0{1,2,3,4} a0 v- y- r[] o[] x{} b1" ∷
+    "= 8" ∷
+    "1 ExchangeStates c1 g0 w0 p0@0{1,2,3,4} a0 v- y- r[] o[] x{} b2" ∷
     "= 10" ∷
-    "2 RegPrim c1 g0 w0 p1@1{1,2,3,4} a0 v1/0{1,2,3,4}{2} y- r[] o[] x{} b0" ∷
+    "1 Construct c1 g0 w0 p0@0{1,2,3,4} a1 v1/0{1,2,3,4}{1} y- r[] o[] x{} b2" ∷
     "= 11" ∷
-    "3 RegPrim c1 g0 w0 p1@1{1,2,3,4} a0 v1/0{1,2,3,4}{3} y- r[] o[] x{} b0" ∷
+    "2 Construct c1 g0 w0 p0@0{1,2,3,4} a1 v1/0{1,2,3,4}{2} y- r[] o[] x{} b2" ∷
     "= 12" ∷
-    "4 RegPrim c1 g0 w0 p1@1{1,2,3,4} a0 v1/0{1,2,3,4}{4} y- r[] o[] x{} b0" ∷
-    "= 16" ∷
-    "made 2:1 inc \"x\" 0" ∷
-    "2 RegPrim c1 g0 w0 p1@1{1,2,3,4} a0 v1/0{1,2,3,4}{2} y- r[] o[2:1] x{} b0" ∷
+    "3 Construct c1 g0 w0 p0@0{1,2,3,4} a1 v1/0{1,2,3,4}{3} y- r[] o[] x{} b0" ∷
+    "= 13" ∷
+    "4 Construct c1 g0 w0 p0@0{1,2,3,4} a1 v1/0{1,2,3,4}{4} y- r[] o[] x{} b0" ∷
+    "= 14" ∷
+    "4 Construct c1 g0 w0 p0@0{1,2,3,4} a1 v1/0{1,2,3,4}{4} y- r[] o[] x{} b1" ∷
     "= 17" ∷
-    "made 4:1 inc \"k1\" 6" ∷
-    "4 RegPrim c1 g0 w0 p1@1{1,2,3,4} a0 v1/0{1,2,3,4}{4} y- r[] o[4:1] x{} b0" ∷
+    "made 1:1 need \"x\" absent; inc \"x\" 9223372036854775807; put \"z\" 10 ? get \"z\"" ∷
+    "made 1:2 need \"k2\" 8 ? keys \"x\"" ∷
+    "1 RegPrim c1 g0 w0 p1@1{1,2,3,4} a0 v1/0{1,2,3,4}{1} y- r[] o[1:1,1:2] x{} b0" ∷
     "= 18" ∷
-    "made 2:2 put \"z\" -9223372036854775808" ∷
+    "made 2:1 need \"ab\" \"yes \\\"no\\\"\"" ∷
+    "made 2:2 inc \"y\" 10; need \"z\" 65" ∷
     "2 RegPrim c1 g0 w0 p1@1{1,2,3,4} a0 v1/0{1,2,3,4}{2} y- r[] o[2:1,2:2] x{} b0" ∷
     "= 19" ∷
-    "made 1:1 put \"abc\" 9223372036854775806" ∷
-    "1 RegPrim c1 g0 w0 p1@1{1,2,3,4} a0 v1/0{1,2,3,4}{1} y- r[] o[1:1] x{} b0" ∷
+    "3 RegPrim c1 g0 w0 p1@1{1,2,3,4} a0 v1/0{1,2,3,4}{3} y- r[] o[] x{} b0" ∷
     "= 20" ∷
-    "made 2:3 move \"k1\" \"z\" 9223372036854775807 ? get \"abc\"" ∷
-    "2 RegPrim c1 g0 w0 p1@1{1,2,3,4} a0 v1/0{1,2,3,4}{2} y- r[] o[2:1,2:2,2:3] x{} b0" ∷
+    "made 4:1 inc \"a\" 7" ∷
+    "4 RegPrim c1 g0 w0 p1@1{1,2,3,4} a0 v1/0{1,2,3,4}{4} y- r[] o[4:1] x{} b0" ∷
     "= 21" ∷
-    "made 3:1 ? get \"y\"" ∷
-    "3 RegPrim c1 g0 w0 p1@1{1,2,3,4} a0 v1/0{1,2,3,4}{3} y- r[] o[3:1] x{} b0" ∷
+    "made 4:2 cas \"a\" absent 74; put \"abc\" 68" ∷
+    "4 RegPrim c1 g0 w0 p1@1{1,2,3,4} a0 v1/0{1,2,3,4}{4} y- r[] o[4:1,4:2] x{} b0" ∷
+    "= 22" ∷
+    "made 1:3 inc \"z\" 2" ∷
+    "1 RegPrim c1 g0 w0 p1@1{1,2,3,4} a0 v1/0{1,2,3,4}{1} y- r[] o[1:1,1:2,1:3] x{} b0" ∷
     "= 23" ∷
-    "order 1 1:1" ∷
-    "order 2 2:1" ∷
-    "order 3 2:2" ∷
-    "order 4 2:3" ∷
-    "order 5 3:1" ∷
-    "order 6 4:1" ∷
-    "1 RegPrim c1 g6 w0 p1@1{1,2,3,4} a0 v1/0{1,2,3,4}{1} y- r[] o[] x{} b0" ∷
-    "reply 1:1 done" ∷
+    "made 3:1 move \"y\" \"x\" 1" ∷
+    "3 RegPrim c1 g0 w0 p1@1{1,2,3,4} a0 v1/0{1,2,3,4}{3} y- r[] o[3:1] x{} b0" ∷
     "= 24" ∷
-    "2 RegPrim c1 g6 w0 p1@1{1,2,3,4} a0 v1/0{1,2,3,4}{2} y- r[] o[] x{} b0" ∷
-    "reply 2:1 done" ∷
-    "reply 2:2 done" ∷
-    "reply 2:3 aborted 1 ? 9223372036854775806" ∷
-    "= 25" ∷
-    "3 RegPrim c1 g6 w0 p1@1{1,2,3,4} a0 v1/0{1,2,3,4}{3} y- r[] o[] x{} b0" ∷
-    "reply 3:1 done ? absent" ∷
-    "= 26" ∷
-    "4 RegPrim c1 g6 w0 p1@1{1,2,3,4} a0 v1/0{1,2,3,4}{4} y- r[] o[] x{} b0" ∷
-    "reply 4:1 done" ∷
+    "made 2:3 cas \"z\" 99 43" ∷
+    "2 RegPrim c1 g0 w0 p1@1{1,2,3,4} a0 v1/0{1,2,3,4}{2} y- r[] o[2:1,2:2,2:3] x{} b0" ∷
+    "= 27" ∷
+    "order 1 1:1" ∷
+    "order 2 1:2" ∷
+    "order 3 1:3" ∷
+    "order 4 2:1" ∷
+    "order 5 2:2" ∷
+    "order 6 2:3" ∷
+    "order 7 3:1" ∷
+    "order 8 4:1" ∷
+    "order 9 4:2" ∷
+    "1 RegPrim c1 g9 w0 p1@1{1,2,3,4} a0 v1/0{1,2,3,4}{1} y- r[] o[] x{} b0" ∷
+    "reply 1:1 done ? 10" ∷
+    "reply 1:2 aborted 1 ? keys \"x\"" ∷
+    "reply 1:3 done" ∷
+    "= 28" ∷
+    "2 RegPrim c1 g9 w0 p1@1{1,2,3,4} a0 v1/0{1,2,3,4}{2} y- r[] o[] x{} b0" ∷
+    "reply 2:1 aborted 1" ∷
+    "reply 2:2 aborted 2" ∷
+    "reply 2:3 done" ∷
+    "= 29" ∷
+    "3 RegPrim c1 g9 w0 p1@1{1,2,3,4} a0 v1/0{1,2,3,4}{3} y- r[] o[] x{} b0" ∷
+    "reply 3:1 aborted 1" ∷
     "= 30" ∷
-    "made 2:4 put \"abc\" 9 ? count" ∷
-    "2 RegPrim c1 g6 w0 p1@1{1,2,3,4} a0 v1/0{1,2,3,4}{2} y- r[] o[2:4] x{} b0" ∷
-    "= 31" ∷
-    "made 3:2 inc \"z\" 7" ∷
-    "3 RegPrim c1 g6 w0 p1@1{1,2,3,4} a0 v1/0{1,2,3,4}{3} y- r[] o[3:2] x{} b0" ∷
-    "= 32" ∷
-    "made 3:3 inc \"a\" -2" ∷
-    "3 RegPrim c1 g6 w0 p1@1{1,2,3,4} a0 v1/0{1,2,3,4}{3} y- r[] o[3:2,3:3] x{} b0" ∷
-    "= 34" ∷
-    "1 TransPrim t1 g6 w0 p1@1{1,2,3,4} a0 v1/0{1,2,3,4}{1} y- r[] o[] x{} b0" ∷
-    "2 TransPrim t1 g6 w0 p1@1{1,2,3,4} a0 v1/0{1,2,3,4}{2} y- r[] o[2:4] x{} b0" ∷
-    "4 TransPrim t1 g6 w0 p1@1{1,2,3,4} a0 v1/0{1,2,3,4}{4} y- r[] o[] x{} b0" ∷
-    "= 35" ∷
-    "1 ExchangeStates c2 g6 w0 p1@1{1,2,3,4} a0 v- y![] r[] o[] x{} b0" ∷
-    "2 ExchangeStates c2 g6 w0 p1@1{1,2,3,4} a0 v- y![] r[2:4] o[] x{} b0" ∷
-    "4 ExchangeStates c2 g6 w0 p1@1{1,2,3,4} a0 v- y![] r[] o[] x{} b0" ∷
-    "= 36" ∷
-    "made 3:4 join 9" ∷
-    "3 RegPrim c1 g6 w0 p1@1{1,2,3,4} a0 v1/0{1,2,3,4}{3} y- r[] o[3:2,3:3,3:4] x{} b0" ∷
-    "= 38" ∷
-    "1 ExchangeActions c2 g6 w0 p1@1{1,2,3,4} a0 v- y![] r[] o[] x{} b0" ∷
-    "= 39" ∷
-    "2 ExchangeActions c2 g6 w0 p1@1{1,2,3,4} a0 v- y![] r[2:4] o[] x{} b0" ∷
-    "= 40" ∷
-    "4 ExchangeActions c2 g6 w0 p1@1{1,2,3,4} a0 v- y![] r[] o[] x{} b0" ∷
-    "= 42" ∷
-    "1 Construct c2 g6 w0 p1@1{1,2,3,4} a1 v2/1{1,2,4}{1} y![] r[2:4] o[] x{} b0" ∷
-    "= 43" ∷
-    "2 Construct c2 g6 w0 p1@1{1,2,3,4} a1 v2/1{1,2,4}{2} y![] r[2:4] o[] x{} b0" ∷
-    "= 44" ∷
-    "4 Construct c2 g6 w0 p1@1{1,2,3,4} a1 v2/1{1,2,4}{4} y![] r[2:4] o[] x{} b0" ∷
-    "= 46" ∷
-    "order 7 2:4" ∷
-    "1 RegPrim c2 g7 w0 p2@2{1,2,4} a0 v2/1{1,2,4}{1} y- r[] o[] x{} b0" ∷
-    "= 47" ∷
-    "2 RegPrim c2 g7 w0 p2@2{1,2,4} a0 v2/1{1,2,4}{2} y- r[] o[] x{} b0" ∷
-    "reply 2:4 done ? count 4" ∷
-    "= 48" ∷
-    "4 RegPrim c2 g7 w0 p2@2{1,2,4} a0 v2/1{1,2,4}{4} y- r[] o[] x{} b0" ∷
-    "= 50" ∷
-    "made 3:5 join 15" ∷
-    "3 RegPrim c1 g6 w0 p1@1{1,2,3,4} a0 v1/0{1,2,3,4}{3} y- r[] o[3:2,3:3,3:4,3:5] x{} b0" ∷
-    "= 51" ∷
-    "made 1:2 del \"y\"" ∷
-    "1 RegPrim c2 g7 w0 p2@2{1,2,4} a0 v2/1{1,2,4}{1} y- r[] o[1:2] x{} b0" ∷
-    "= 54" ∷
-    "order 8 1:2" ∷
-    "1 RegPrim c2 g8 w0 p2@2{1,2,4} a0 v2/1{1,2,4}{1} y- r[] o[] x{} b0" ∷
-    "reply 1:2 done" ∷
-    "= 57" ∷
-    "2 Down" ∷
-    "= 58" ∷
-    "4 RegPrim c2 g8 w0 p2@2{1,2,4} a0 v2/1{1,2,4}{4} y- r[] o[] x{} b0" ∷
-    "= 61" ∷
-    "dirty 1 -9223372036854775808" ∷
-    "= 63" ∷
-    "1 Down" ∷
-    "= 64" ∷
-    "made 1:3 join 5" ∷
-    "1 NonPrim - g8 w0 p2@2{1,2,4} a0 v2/1{1,2,4}{1} y- r[1:3] o[] x{} b0" ∷
-    "= 65" ∷
-    "made 3:6 inc \"abc\" 1" ∷
-    "3 RegPrim c1 g6 w0 p1@1{1,2,3,4} a0 v1/0{1,2,3,4}{3} y- r[] o[3:2,3:3,3:4,3:5,3:6] x{} b0" ∷
-    "= 66" ∷
-    "made 3:7 cas \"y\" absent 80 ? get \"y\"" ∷
-    "3 RegPrim c1 g6 w0 p1@1{1,2,3,4} a0 v1/0{1,2,3,4}{3} y- r[] o[3:2,3:3,3:4,3:5,3:6,3:7] x{} b0" ∷
-    "= 68" ∷
-    "greens 1 [1:1,2:1,2:2,2:3,3:1,4:1,2:4,1:2]" ∷
-    "db 1 \"abc\"=9 \"k1\"=6 \"x\"=0 \"z\"=-9223372036854775808" ∷
-    "= 69" ∷
-    "made 3:8 leave 1" ∷
-    "3 RegPrim c1 g6 w0 p1@1{1,2,3,4} a0 v1/0{1,2,3,4}{3} y- r[] o[3:2,3:3,3:4,3:5,3:6,3:7,3:8] x{} b0" ∷
-    "= 70" ∷
-    "1 ExchangeStates c3 g8 w0 p2@2{1,2,4} a0 v2/1{1,2,4}{1} y- r[1:3] o[] x{} b0" ∷
-    "= 71" ∷
-    "made 4:2 put \"b\" 81 ? get \"y\"" ∷
-    "4 RegPrim c2 g8 w0 p2@2{1,2,4} a0 v2/1{1,2,4}{4} y- r[] o[4:2] x{} b0" ∷
-    "= 72" ∷
-    "3 TransPrim t1 g6 w0 p1@1{1,2,3,4} a0 v1/0{1,2,3,4}{3} y?[3:2,3:3,3:4,3:5,3:6,3:7] r[] o[3:8] x{} b0" ∷
-    "= 73" ∷
-    "4 TransPrim t2 g8 w0 p2@2{1,2,4} a0 v2/1{1,2,4}{4} y- r[] o[4:2] x{} b0" ∷
-    "= 74" ∷
-    "1 NonPrim t3 g8 w0 p2@2{1,2,4} a0 v2/1{1,2,4}{1} y- r[1:3] o[] x{} b0" ∷
-    "= 75" ∷
-    "1 ExchangeStates c4 g8 w0 p2@2{1,2,4} a0 v2/1{1,2,4}{1} y- r[1:3] o[] x{} b0" ∷
-    "3 ExchangeStates c4 g6 w0 p1@1{1,2,3,4} a0 v- y![3:2,3:3,3:4,3:5,3:6,3:7] r[3:8] o[] x{} b0" ∷
-    "4 ExchangeStates c4 g8 w0 p2@2{1,2,4} a0 v- y![] r[4:2] o[] x{} b0" ∷
-    "= 77" ∷
-    "1 ExchangeActions c4 g8 w0 p2@2{1,2,4} a0 v2/1{1,2,4}{1} y- r[1:3] o[] x{} b0" ∷
-    "= 78" ∷
-    "3 ExchangeActions c4 g6 w0 p1@1{1,2,3,4} a0 v- y![3:2,3:3,3:4,3:5,3:6,3:7] r[3:8] o[] x{} b0" ∷
-    "= 79" ∷
-    "4 ExchangeActions c4 g8 w0 p2@2{1,2,4} a0 v- y![] r[4:2] o[] x{} b0" ∷
-    "= 82" ∷
-    "3 ExchangeActions c4 g8 w0 p1@1{1,2,3,4} a0 v- y![3:2,3:3,3:4,3:5,3:6,3:7] r[3:8] o[] x{} b0" ∷
-    "= 86" ∷
-    "3 ExchangeActions c4 g8 w0 p1@1{1,2,3,4} a0 v- y![3:2,3:3,3:4,3:5,3:6,3:7] r[1:3,3:8] o[] x{} b0" ∷
-    "= 87" ∷
-    "4 ExchangeActions c4 g8 w0 p2@2{1,2,4} a0 v- y![] r[1:3,4:2] o[] x{} b0" ∷
-    "= 89" ∷
-    "1 ExchangeActions c4 g8 w0 p2@2{1,2,4} a0 v2/1{1,2,4}{1} y- r[1:3,3:2,3:3,3:4,3:5,3:6,3:7,3:8] o[] x{} b0" ∷
-    "= 91" ∷
-    "4 ExchangeActions c4 g8 w0 p2@2{1,2,4} a0 v- y![] r[1:3,3:2,3:3,3:4,3:5,3:6,3:7,3:8,4:2] o[] x{} b0" ∷
-    "= 92" ∷
-    "1 NonPrim t4 g8 w0 p2@2{1,2,4} a0 v2/1{1,2,4}{1} y- r[1:3,3:2,3:3,3:4,3:5,3:6,3:7,3:8] o[] x{} b0" ∷
-    "3 NonPrim t4 g8 w0 p1@1{1,2,3,4} a0 v- y![3:2,3:3,3:4,3:5,3:6,3:7] r[1:3,3:8] o[] x{} b0" ∷
-    "4 NonPrim t4 g8 w0 p2@2{1,2,4} a0 v- y![] r[1:3,3:2,3:3,3:4,3:5,3:6,3:7,3:8,4:2] o[] x{} b0" ∷
-    "= 93" ∷
-    "1 ExchangeStates c5 g8 w0 p2@2{1,2,4} a0 v2/1{1,2,4}{1} y- r[1:3,3:2,3:3,3:4,3:5,3:6,3:7,3:8] o[] x{} b0" ∷
-    "3 ExchangeStates c5 g8 w0 p1@1{1,2,3,4} a0 v- y![3:2,3:3,3:4,3:5,3:6,3:7] r[1:3,3:8] o[] x{} b0" ∷
-    "4 ExchangeStates c5 g8 w0 p2@2{1,2,4} a0 v- y![] r[1:3,3:2,3:3,3:4,3:5,3:6,3:7,3:8,4:2] o[] x{} b0" ∷
-    "= 94" ∷
-    "3 ExchangeStates c5 g8 w0 p1@1{1,2,3,4} a0 v- y![3:2,3:3,3:4,3:5,3:6,3:7] r[1:3,3:8] o[] x{} b1" ∷
-    "= 95" ∷
-    "4 ExchangeStates c5 g8 w0 p2@2{1,2,4} a0 v- y![] r[1:3,3:2,3:3,3:4,3:5,3:6,3:7,3:8,4:2] o[] x{} b1" ∷
-    "= 97" ∷
-    "1 ExchangeActions c5 g8 w0 p2@2{1,2,4} a0 v2/1{1,2,4}{1} y- r[1:3,3:2,3:3,3:4,3:5,3:6,3:7,3:8] o[] x{} b0" ∷
-    "= 98" ∷
-    "3 ExchangeActions c5 g8 w0 p1@1{1,2,3,4} a0 v- y![3:2,3:3,3:4,3:5,3:6,3:7] r[1:3,3:8] o[] x{} b1" ∷
-    "= 99" ∷
-    "4 ExchangeActions c5 g8 w0 p2@2{1,2,4} a0 v- y![] r[1:3,3:2,3:3,3:4,3:5,3:6,3:7,3:8,4:2] o[] x{} b1" ∷
-    "= 101" ∷
-    "1 Construct c5 g8 w0 p2@2{1,2,4} a1 v5/2{1,3,4}{1} y![] r[1:3,3:2,3:3,3:4,3:5,3:6,3:7,3:8,4:2] o[] x{} b0" ∷
-    "= 102" ∷
-    "3 Construct c5 g8 w0 p2@2{1,2,4} a1 v5/2{1,3,4}{3} y![] r[1:3,3:2,3:3,3:4,3:5,3:6,3:7,3:8,4:2] o[] x{} b1" ∷
-    "= 103" ∷
-    "4 Construct c5 g8 w0 p2@2{1,2,4} a1 v5/2{1,3,4}{4} y![] r[1:3,3:2,3:3,3:4,3:5,3:6,3:7,3:8,4:2] o[] x{} b1" ∷
-    "= 105" ∷
-    "order 9 1:3" ∷
-    "order 10 3:2" ∷
-    "order 11 3:3" ∷
-    "order 12 3:4" ∷
-    "order 13 3:5" ∷
-    "order 14 3:6" ∷
-    "order 15 3:7" ∷
-    "order 16 3:8" ∷
-    "order 17 4:2" ∷
-    "1 RegPrim c5 g17 w6 p3@5{1,3,4} a0 v5/2{1,3,4}{1} y- r[] o[] x{1} b0" ∷
-    "= 106" ∷
-    "made 3:9 put \"y\" 93" ∷
-    "3 RegPrim c5 g17 w6 p3@5{1,3,4} a0 v5/2{1,3,4}{3} y- r[] o[3:9] x{1} b0" ∷
-    "reply 3:2 done" ∷
-    "reply 3:3 done" ∷
-    "reply 3:4 done" ∷
-    "reply 3:5 done" ∷
-    "reply 3:6 done" ∷
-    "reply 3:7 done ? 80" ∷
-    "reply 3:8 done" ∷
-    "= 107" ∷
-    "made 4:3 join 6" ∷
-    "4 RegPrim c5 g17 w6 p3@5{1,3,4} a0 v5/2{1,3,4}{4} y- r[] o[4:3] x{1} b0" ∷
-    "reply 4:2 done ? 80" ∷
-    "= 109" ∷
-    "order 18 3:9" ∷
-    "order 19 4:3" ∷
-    "1 RegPrim c5 g19 w6 p3@5{1,3,4} a0 v5/2{1,3,4}{1} y- r[] o[] x{1} b0" ∷
-    "= 110" ∷
-    "3 RegPrim c5 g19 w6 p3@5{1,3,4} a0 v5/2{1,3,4}{3} y- r[] o[] x{1} b0" ∷
-    "reply 3:9 done" ∷
-    "= 111" ∷
-    "4 RegPrim c5 g19 w6 p3@5{1,3,4} a0 v5/2{1,3,4}{4} y- r[] o[] x{1} b0" ∷
-    "reply 4:3 done" ∷
-    "= 115" ∷
-    "made 4:4 need \"a\" absent" ∷
-    "4 RegPrim c5 g19 w6 p3@5{1,3,4} a0 v5/2{1,3,4}{4} y- r[] o[4:4] x{1} b0" ∷
-    "= 116" ∷
-    "made 3:10 leave 3" ∷
-    "3 RegPrim c5 g19 w6 p3@5{1,3,4} a0 v5/2{1,3,4}{3} y- r[] o[3:10] x{1} b0" ∷
-    "= 117" ∷
-    "made 4:5 inc \"z\" 8; put \"k1\" 25" ∷
-    "4 RegPrim c5 g19 w6 p3@5{1,3,4} a0 v5/2{1,3,4}{4} y- r[] o[4:4,4:5] x{1} b0" ∷
-    "= 118" ∷
-    "made 3:11 join 7" ∷
-    "3 RegPrim c5 g19 w6 p3@5{1,3,4} a0 v5/2{1,3,4}{3} y- r[] o[3:10,3:11] x{1} b0" ∷
-    "= 119" ∷
     "4 Down" ∷
-    "= 120" ∷
-    "4 NonPrim - g19 w6 p3@5{1,3,4} a0 v5/2{1,3,4}{4} y- r[4:4,4:5] o[] x{1} b0" ∷
-    "end 121" ∷
+    "= 34" ∷
+    "made 2:4 put \"a\" 58" ∷
+    "2 RegPrim c1 g9 w0 p1@1{1,2,3,4} a0 v1/0{1,2,3,4}{2} y- r[] o[2:4] x{} b0" ∷
+    "= 37" ∷
+    "2 Down" ∷
+    "= 38" ∷
+    "4 NonPrim - g0 w0 p1@1{1,2,3,4} a0 v1/0{1,2,3,4}{4} y- r[4:1,4:2] o[] x{} b0" ∷
+    "= 41" ∷
+    "4 Down" ∷
+    "= 42" ∷
+    "3 Down" ∷
+    "= 43" ∷
+    "3 NonPrim - g9 w0 p1@1{1,2,3,4} a0 v1/0{1,2,3,4}{3} y- r[] o[] x{} b0" ∷
+    "= 44" ∷
+    "2 NonPrim - g9 w0 p1@1{1,2,3,4} a0 v1/0{1,2,3,4}{2} y- r[2:4] o[] x{} b0" ∷
+    "= 46" ∷
+    "3 NonPrim - g9 w0 p1@1{1,2,3,4} a0 v1/0{1,2,3,4}{3} y- r[] o[] x{} b1" ∷
+    "= 47" ∷
+    "4 NonPrim - g0 w0 p1@1{1,2,3,4} a0 v1/0{1,2,3,4}{4} y- r[4:1,4:2] o[] x{} b0" ∷
+    "= 51" ∷
+    "3 NonPrim - g9 w0 p1@1{1,2,3,4} a0 v1/0{1,2,3,4}{3} y- r[] o[] x{} b2" ∷
+    "= 52" ∷
+    "4 NonPrim - g0 w0 p1@1{1,2,3,4} a0 v1/0{1,2,3,4}{4} y- r[4:1,4:2] o[] x{} b1" ∷
+    "= 53" ∷
+    "3 NonPrim - g9 w0 p1@1{1,2,3,4} a0 v1/0{1,2,3,4}{3} y- r[] o[] x{} b3" ∷
+    "= 54" ∷
+    "4 NonPrim - g0 w0 p1@1{1,2,3,4} a0 v1/0{1,2,3,4}{4} y- r[4:1,4:2] o[] x{} b2" ∷
+    "= 55" ∷
+    "all [1:1,1:2,1:3,2:1,2:2,2:3,3:1,4:1,4:2]" ∷
+    "= 56" ∷
+    "2 NonPrim - g9 w0 p1@1{1,2,3,4} a0 v1/0{1,2,3,4}{2} y- r[2:4] o[] x{} b1" ∷
+    "= 61" ∷
+    "made 1:4 cas \"a\" absent 63" ∷
+    "1 RegPrim c1 g9 w0 p1@1{1,2,3,4} a0 v1/0{1,2,3,4}{1} y- r[] o[1:4] x{} b0" ∷
+    "= 62" ∷
+    "made 1:5 put \"x\" \"absent\" ? get \"abc\"" ∷
+    "1 RegPrim c1 g9 w0 p1@1{1,2,3,4} a0 v1/0{1,2,3,4}{1} y- r[] o[1:4,1:5] x{} b0" ∷
+    "= 63" ∷
+    "3 NonPrim - g9 w0 p1@1{1,2,3,4} a0 v1/0{1,2,3,4}{3} y- r[] o[] x{} b4" ∷
+    "= 65" ∷
+    "made 1:6 put \"a\" -3" ∷
+    "1 RegPrim c1 g9 w0 p1@1{1,2,3,4} a0 v1/0{1,2,3,4}{1} y- r[] o[1:4,1:5,1:6] x{} b0" ∷
+    "= 66" ∷
+    "3 NonPrim - g9 w0 p1@1{1,2,3,4} a0 v1/0{1,2,3,4}{3} y- r[] o[] x{} b5" ∷
+    "= 67" ∷
+    "3 NonPrim - g9 w0 p1@1{1,2,3,4} a0 v1/0{1,2,3,4}{3} y- r[] o[] x{} b6" ∷
+    "= 72" ∷
+    "3 Down" ∷
+    "= 73" ∷
+    "4 Down" ∷
+    "= 74" ∷
+    "4 NonPrim - g0 w0 p1@1{1,2,3,4} a0 v1/0{1,2,3,4}{4} y- r[4:1,4:2] o[] x{} b0" ∷
+    "= 75" ∷
+    "3 NonPrim - g9 w0 p1@1{1,2,3,4} a0 v1/0{1,2,3,4}{3} y- r[] o[] x{} b0" ∷
+    "= 76" ∷
+    "1 Down" ∷
+    "= 77" ∷
+    "1 NonPrim - g9 w0 p1@1{1,2,3,4} a0 v1/0{1,2,3,4}{1} y- r[1:4,1:5,1:6] o[] x{} b0" ∷
+    "end 79" ∷
     [])
 unfolding cases_compute
-four_replicas_primary_lost_and_reds_ordered_crash_in_a_device_call_d_from_discarding = refl
+four_replicas_primary_formed_crash_in_a_device_call_a = refl
 
--- Replicas at the start: 4: a primary is lost in a partition, and after a merge red actions are ordered; a crash strikes inside a device call; a server that was removed is told so; the last event is refused.
-four_replicas_primary_lost_and_reds_ordered_crash_in_a_device_call_leaver_refused_a :
+-- Replicas at the start: 4: a primary is lost in a partition, and after a merge red actions are ordered.
+four_replicas_primary_lost_and_reds_ordered_a :
     replayed_text (
-    "start 1 2 3 4" ∷
-    "merge 1 2 3 4" ∷
+    "start 2 13 22 31" ∷
+    "merge 2 13 22 31" ∷
     "rounds 1" ∷
+    "rounds 2" ∷
+    "split 2 13 22 31" ∷
+    "merge 2 13 22 31" ∷
+    "rounds 4" ∷
+    "request 22 ? get \"z\"" ∷
+    "request 2 inc \"x\" -2" ∷
     "gather" ∷
-    "deliver 1 4" ∷
-    "leave 1 3" ∷
-    "stop 2 11 b20001" ∷
-    "request 4 put \"y\" 20" ∷
-    "request 1 move \"b\" \"ab\" 1; inc \"a\" 7" ∷
-    "join 2 28" ∷
-    "join 2 5" ∷
-    "rounds 2" ∷
-    "rounds 2" ∷
-    "rounds 1" ∷
-    "rounds 2" ∷
-    "split 4" ∷
-    "split 3" ∷
-    "split 1" ∷
-    "merge 4" ∷
-    "merge 1" ∷
-    "merge 3" ∷
-    "stop 4 4 01" ∷
+    "gather" ∷
+    "gather" ∷
+    "gather" ∷
+    "gather" ∷
+    "gather" ∷
+    "gather" ∷
+    "request 22 inc \"k1\" 9223372036854775807" ∷
+    "deliver 13 2" ∷
+    "split 2 13 22 31" ∷
+    "merge 2 13 22 31" ∷
+    "split 2 13 22 31" ∷
+    "show 2" ∷
+    "merge 2 13 22 31" ∷
+    "weak 2 get \"z\"" ∷
     "rounds 3" ∷
-    "rounds 2" ∷
-    "gather" ∷
-    "rounds 2" ∷
-    "request 1 put \"a\" 1" ∷
-    "gather" ∷
-    "request 4 inc \"a\" 6; inc \"ab\" 9; cas \"y\" 57 56 ? count" ∷
-    "recover 2" ∷
-    "request 1 need \"z\" absent" ∷
-    "rounds 2" ∷
-    "recover 4" ∷
-    "split 1" ∷
-    "split 3" ∷
-    "merge 1 2 4" ∷
-    "rounds 2" ∷
-    "rounds 2" ∷
+    "request 31 move \"b\" \"z\" 8; put \"y\" 97; put \"z\" 44; inc \"z\" 10; del \"x\"; cas \"b\" -1 \"; ? #\"; put \"b\" 9223372036854775806; inc \"a\" -9223372036854775808; cas \"z\" 65 16; cas \"ab\" \"\" 99; put \"b\" 3; inc \"z\" 8; inc \"b\" -2; inc \"x\" 10; inc \"y\" -3; del \"z\"" ∷
+    "request 31 need \"z\" absent" ∷
+    "request 2 put \"x\" 5; put \"a\" \"hi\"; del \"y\"; inc \"x\" 0; inc \"z\" 4; move \"x\" \"y\" 5; inc \"b\" -1; inc \"z\" 10; move \"b\" \"ab\" 5; cas \"b\" absent 49; put \"y\" 43; inc \"k2\" -2; inc \"z\" 3; inc \"z\" -3; inc \"y\" 9; need \"z\" 66 ? get \"b\"" ∷
     "rounds 1" ∷
-    "request 4 move \"a\" \"a\" 0" ∷
-    "split 2" ∷
-    "split " ∷
+    "request 31 need \"z\" absent" ∷
+    "order 31" ∷
+    "receive 2 13" ∷
+    "request 13 inc \"y\" 12" ∷
+    "split 2 13 22 31" ∷
+    "merge 2 13 22 31" ∷
+    "split 2 22 31" ∷
+    "order 13" ∷
+    "rounds 1" ∷
+    "gather" ∷
+    "request 31 inc \"y\" 11 ? count" ∷
+    "request 22 need \"z\" \"12\"; inc \"a\" -3 ? keys \"\"" ∷
+    "show order" ∷
+    "stop 13 15 01" ∷
+    "request 31 move \"z\" \"ab\" 7" ∷
+    "request 22 inc \"ab\" 3" ∷
+    "gather" ∷
+    "request 13 put \"ab\" 59 ? get \"a\"" ∷
+    "request 2 inc \"ab\" 10" ∷
+    "split 13" ∷
+    "merge 2 13 22 31" ∷
+    "request 22 move \"a\" \"b\" 9223372036854775807 ? get \"k1\"" ∷
+    "request 22 move \"abc\" \"ab\" 2" ∷
+    "order 2" ∷
     "end" ∷
     [])
     ≡ written (
     "= 1" ∷
-    "1 NonPrim - g0 w0 p0@0{1,2,3,4} a0 v- y- r[] o[] x{} b0" ∷
-    "2 NonPrim - g0 w0 p0@0{1,2,3,4} a0 v- y- r[] o[] x{} b0" ∷
-    "3 NonPrim - g0 w0 p0@0{1,2,3,4} a0 v- y- r[] o[] x{} b0" ∷
-    "4 NonPrim - g0 w0 p0@0{1,2,3,4} a0 v- y- r[] o[] x{} b0" ∷
+    "2 NonPrim - g0 w0 p0@0{2,13,22,31} a0 v- y- r[] o[] x{} b0" ∷
+    "13 NonPrim - g0 w0 p0@0{2,13,22,31} a0 v- y- r[] o[] x{} b0" ∷
+    "22 NonPrim - g0 w0 p0@0{2,13,22,31} a0 v- y- r[] o[] x{} b0" ∷
+    "31 NonPrim - g0 w0 p0@0{2,13,22,31} a0 v- y- r[] o[] x{} b0" ∷
     "= 2" ∷
-    "1 ExchangeStates c1 g0 w0 p0@0{1,2,3,4} a0 v- y- r[] o[] x{} b0" ∷
-    "2 ExchangeStates c1 g0 w0 p0@0{1,2,3,4} a0 v- y- r[] o[] x{} b0" ∷
-    "3 ExchangeStates c1 g0 w0 p0@0{1,2,3,4} a0 v- y- r[] o[] x{} b0" ∷
-    "4 ExchangeStates c1 g0 w0 p0@0{1,2,3,4} a0 v- y- r[] o[] x{} b0" ∷
+    "2 ExchangeStates c1 g0 w0 p0@0{2,13,22,31} a0 v- y- r[] o[] x{} b0" ∷
+    "13 ExchangeStates c1 g0 w0 p0@0{2,13,22,31} a0 v- y- r[] o[] x{} b0" ∷
+    "22 ExchangeStates c1 g0 w0 p0@0{2,13,22,31} a0 v- y- r[] o[] x{} b0" ∷
+    "31 ExchangeStates c1 g0 w0 p0@0{2,13,22,31} a0 v- y- r[] o[] x{} b0" ∷
     "= 4" ∷
-    "1 Construct c1 g0 w0 p0@0{1,2,3,4} a1 v1/0{1,2,3,4}{1} y- r[] o[] x{} b0" ∷
+    "2 Construct c1 g0 w0 p0@0{2,13,22,31} a1 v1/0{2,13,22,31}{2} y- r[] o[] x{} b0" ∷
     "= 5" ∷
-    "2 Construct c1 g0 w0 p0@0{1,2,3,4} a1 v1/0{1,2,3,4}{2} y- r[] o[] x{} b0" ∷
+    "13 Construct c1 g0 w0 p0@0{2,13,22,31} a1 v1/0{2,13,22,31}{13} y- r[] o[] x{} b0" ∷
     "= 6" ∷
-    "3 Construct c1 g0 w0 p0@0{1,2,3,4} a1 v1/0{1,2,3,4}{3} y- r[] o[] x{} b0" ∷
+    "22 Construct c1 g0 w0 p0@0{2,13,22,31} a1 v1/0{2,13,22,31}{22} y- r[] o[] x{} b0" ∷
     "= 7" ∷
-    "4 Construct c1 g0 w0 p0@0{1,2,3,4} a1 v1/0{1,2,3,4}{4} y- r[] o[] x{} b0" ∷
+    "31 Construct c1 g0 w0 p0@0{2,13,22,31} a1 v1/0{2,13,22,31}{31} y- r[] o[] x{} b0" ∷
     "= 9" ∷
-    "1 RegPrim c1 g0 w0 p1@1{1,2,3,4} a0 v1/0{1,2,3,4}{1} y- r[] o[] x{} b0" ∷
+    "2 RegPrim c1 g0 w0 p1@1{2,13,22,31} a0 v1/0{2,13,22,31}{2} y- r[] o[] x{} b0" ∷
     "= 10" ∷
-    "made 1:1 leave 3" ∷
-    "1 RegPrim c1 g0 w0 p1@1{1,2,3,4} a0 v1/0{1,2,3,4}{1} y- r[] o[1:1] x{} b0" ∷
+    "13 RegPrim c1 g0 w0 p1@1{2,13,22,31} a0 v1/0{2,13,22,31}{13} y- r[] o[] x{} b0" ∷
+    "= 11" ∷
+    "22 RegPrim c1 g0 w0 p1@1{2,13,22,31} a0 v1/0{2,13,22,31}{22} y- r[] o[] x{} b0" ∷
     "= 12" ∷
-    "4 Construct c1 g0 w0 p0@0{1,2,3,4} a1 v1/0{1,2,3,4}{4} y- r[] o[] x{} b1" ∷
-    "= 13" ∷
-    "made 1:2 move \"b\" \"ab\" 1; inc \"a\" 7" ∷
-    "1 RegPrim c1 g0 w0 p1@1{1,2,3,4} a0 v1/0{1,2,3,4}{1} y- r[] o[1:1,1:2] x{} b0" ∷
+    "31 RegPrim c1 g0 w0 p1@1{2,13,22,31} a0 v1/0{2,13,22,31}{31} y- r[] o[] x{} b0" ∷
     "= 14" ∷
-    "2 Construct c1 g0 w0 p0@0{1,2,3,4} a1 v1/0{1,2,3,4}{2} y- r[] o[] x{} b1" ∷
+    "2 TransPrim t1 g0 w0 p1@1{2,13,22,31} a0 v1/0{2,13,22,31}{2} y- r[] o[] x{} b0" ∷
+    "13 TransPrim t1 g0 w0 p1@1{2,13,22,31} a0 v1/0{2,13,22,31}{13} y- r[] o[] x{} b0" ∷
+    "22 TransPrim t1 g0 w0 p1@1{2,13,22,31} a0 v1/0{2,13,22,31}{22} y- r[] o[] x{} b0" ∷
+    "31 TransPrim t1 g0 w0 p1@1{2,13,22,31} a0 v1/0{2,13,22,31}{31} y- r[] o[] x{} b0" ∷
     "= 15" ∷
-    "2 Construct c1 g0 w0 p0@0{1,2,3,4} a1 v1/0{1,2,3,4}{2} y- r[] o[] x{} b2" ∷
+    "2 ExchangeStates c2 g0 w0 p1@1{2,13,22,31} a0 v- y![] r[] o[] x{} b0" ∷
+    "13 ExchangeStates c2 g0 w0 p1@1{2,13,22,31} a0 v- y![] r[] o[] x{} b0" ∷
+    "22 ExchangeStates c2 g0 w0 p1@1{2,13,22,31} a0 v- y![] r[] o[] x{} b0" ∷
+    "31 ExchangeStates c2 g0 w0 p1@1{2,13,22,31} a0 v- y![] r[] o[] x{} b0" ∷
     "= 17" ∷
-    "order 1 1:1" ∷
-    "order 2 1:2" ∷
-    "1 RegPrim c1 g2 w0 p1@1{1,2,3,4} a0 v1/0{1,2,3,4}{1} y- r[] o[] x{3} b0" ∷
-    "reply 1:1 done" ∷
-    "reply 1:2 aborted 1" ∷
+    "2 Construct c2 g0 w0 p1@1{2,13,22,31} a1 v2/1{2,13,22,31}{2} y![] r[] o[] x{} b0" ∷
     "= 18" ∷
-    "made 2:1 join 28" ∷
-    "made 2:2 join 5" ∷
-    "2 RegPrim c1 g2 w0 p1@1{1,2,3,4} a0 v1/0{1,2,3,4}{2} y- r[] o[2:1,2:2] x{3} b0" ∷
+    "13 Construct c2 g0 w0 p1@1{2,13,22,31} a1 v2/1{2,13,22,31}{13} y![] r[] o[] x{} b0" ∷
     "= 19" ∷
-    "3 RegPrim c1 g2 w0 p1@1{1,2,3,4} a0 v1/0{1,2,3,4}{3} y- r[] o[] x{3} b0" ∷
+    "22 Construct c2 g0 w0 p1@1{2,13,22,31} a1 v2/1{2,13,22,31}{22} y![] r[] o[] x{} b0" ∷
     "= 20" ∷
-    "made 4:1 put \"y\" 20" ∷
-    "4 RegPrim c1 g2 w0 p1@1{1,2,3,4} a0 v1/0{1,2,3,4}{4} y- r[] o[4:1] x{3} b0" ∷
+    "31 Construct c2 g0 w0 p1@1{2,13,22,31} a1 v2/1{2,13,22,31}{31} y![] r[] o[] x{} b0" ∷
     "= 22" ∷
-    "order 3 2:1" ∷
-    "order 4 2:2" ∷
-    "order 5 4:1" ∷
-    "1 RegPrim c1 g5 w0 p1@1{1,2,3,4} a0 v1/0{1,2,3,4}{1} y- r[] o[] x{3} b0" ∷
+    "2 RegPrim c2 g0 w0 p2@2{2,13,22,31} a0 v2/1{2,13,22,31}{2} y- r[] o[] x{} b0" ∷
     "= 23" ∷
-    "2 RegPrim c1 g5 w0 p1@1{1,2,3,4} a0 v1/0{1,2,3,4}{2} y- r[] o[] x{3} b0" ∷
-    "reply 2:1 done" ∷
-    "reply 2:2 done" ∷
+    "13 RegPrim c2 g0 w0 p2@2{2,13,22,31} a0 v2/1{2,13,22,31}{13} y- r[] o[] x{} b0" ∷
     "= 24" ∷
-    "3 RegPrim c1 g5 w0 p1@1{1,2,3,4} a0 v1/0{1,2,3,4}{3} y- r[] o[] x{3} b0" ∷
+    "22 RegPrim c2 g0 w0 p2@2{2,13,22,31} a0 v2/1{2,13,22,31}{22} y- r[] o[] x{} b0" ∷
     "= 25" ∷
-    "4 RegPrim c1 g5 w0 p1@1{1,2,3,4} a0 v1/0{1,2,3,4}{4} y- r[] o[] x{3} b0" ∷
-    "reply 4:1 done" ∷
-    "= 31" ∷
-    "4 TransPrim t1 g5 w0 p1@1{1,2,3,4} a0 v1/0{1,2,3,4}{4} y- r[] o[] x{3} b0" ∷
-    "= 32" ∷
-    "3 TransPrim t1 g5 w0 p1@1{1,2,3,4} a0 v1/0{1,2,3,4}{3} y- r[] o[] x{3} b0" ∷
-    "= 33" ∷
-    "1 TransPrim t1 g5 w0 p1@1{1,2,3,4} a0 v1/0{1,2,3,4}{1} y- r[] o[] x{3} b0" ∷
-    "= 34" ∷
-    "4 ExchangeStates c2 g5 w0 p1@1{1,2,3,4} a0 v- y![] r[] o[] x{3} b0" ∷
-    "= 35" ∷
-    "1 ExchangeStates c3 g5 w0 p1@1{1,2,3,4} a0 v- y![] r[] o[] x{3} b0" ∷
-    "= 36" ∷
-    "3 ExchangeStates c4 g5 w0 p1@1{1,2,3,4} a0 v- y![] r[] o[] x{3} b0" ∷
+    "31 RegPrim c2 g0 w0 p2@2{2,13,22,31} a0 v2/1{2,13,22,31}{31} y- r[] o[] x{} b0" ∷
+    "= 28" ∷
+    "made 22:1 ? get \"z\"" ∷
+    "22 RegPrim c2 g0 w0 p2@2{2,13,22,31} a0 v2/1{2,13,22,31}{22} y- r[] o[22:1] x{} b0" ∷
+    "= 29" ∷
+    "made 2:1 inc \"x\" -2" ∷
+    "2 RegPrim c2 g0 w0 p2@2{2,13,22,31} a0 v2/1{2,13,22,31}{2} y- r[] o[2:1] x{} b0" ∷
+    "= 37" ∷
+    "made 22:2 inc \"k1\" 9223372036854775807" ∷
+    "22 RegPrim c2 g0 w0 p2@2{2,13,22,31} a0 v2/1{2,13,22,31}{22} y- r[] o[22:1,22:2] x{} b0" ∷
+    "= 38" ∷
+    "order 1 2:1" ∷
+    "order 2 22:1" ∷
+    "13 RegPrim c2 g2 w0 p2@2{2,13,22,31} a0 v2/1{2,13,22,31}{13} y- r[] o[] x{} b0" ∷
     "= 39" ∷
-    "1 NonPrim c3 g5 w0 p1@1{1,2,3,4} a0 v- y![] r[] o[] x{3} b0" ∷
+    "2 TransPrim t2 g2 w0 p2@2{2,13,22,31} a0 v2/1{2,13,22,31}{2} y- r[] o[] x{} b0" ∷
+    "13 TransPrim t2 g2 w0 p2@2{2,13,22,31} a0 v2/1{2,13,22,31}{13} y- r[] o[] x{} b0" ∷
+    "22 TransPrim t2 g2 w0 p2@2{2,13,22,31} a0 v2/1{2,13,22,31}{22} y- r[] o[22:2] x{} b0" ∷
+    "31 TransPrim t2 g2 w0 p2@2{2,13,22,31} a0 v2/1{2,13,22,31}{31} y- r[] o[] x{} b0" ∷
+    "reply 2:1 done" ∷
+    "reply 22:1 done ? absent" ∷
     "= 40" ∷
-    "3 Left c4 g5 w0 p1@1{1,2,3,4} a0 v- y![] r[] o[] x{3} b0" ∷
+    "2 ExchangeStates c3 g2 w0 p2@2{2,13,22,31} a0 v- y![] r[] o[] x{} b0" ∷
+    "13 ExchangeStates c3 g2 w0 p2@2{2,13,22,31} a0 v- y![] r[] o[] x{} b0" ∷
+    "22 ExchangeStates c3 g2 w0 p2@2{2,13,22,31} a0 v- y![] r[22:2] o[] x{} b0" ∷
+    "31 ExchangeStates c3 g2 w0 p2@2{2,13,22,31} a0 v- y![] r[] o[] x{} b0" ∷
     "= 41" ∷
-    "4 NonPrim c2 g5 w0 p1@1{1,2,3,4} a0 v- y![] r[] o[] x{3} b0" ∷
+    "2 NonPrim t3 g2 w0 p2@2{2,13,22,31} a0 v- y![] r[] o[] x{} b0" ∷
+    "13 NonPrim t3 g2 w0 p2@2{2,13,22,31} a0 v- y![] r[] o[] x{} b0" ∷
+    "22 NonPrim t3 g2 w0 p2@2{2,13,22,31} a0 v- y![] r[22:2] o[] x{} b0" ∷
+    "31 NonPrim t3 g2 w0 p2@2{2,13,22,31} a0 v- y![] r[] o[] x{} b0" ∷
+    "= 42" ∷
+    "greens 2 [2:1,22:1]" ∷
+    "db 2 \"x\"=-2" ∷
+    "= 43" ∷
+    "2 ExchangeStates c4 g2 w0 p2@2{2,13,22,31} a0 v- y![] r[] o[] x{} b0" ∷
+    "13 ExchangeStates c4 g2 w0 p2@2{2,13,22,31} a0 v- y![] r[] o[] x{} b0" ∷
+    "22 ExchangeStates c4 g2 w0 p2@2{2,13,22,31} a0 v- y![] r[22:2] o[] x{} b0" ∷
+    "31 ExchangeStates c4 g2 w0 p2@2{2,13,22,31} a0 v- y![] r[] o[] x{} b0" ∷
+    "= 44" ∷
+    "weak 2 absent" ∷
+    "= 46" ∷
+    "2 ExchangeActions c4 g2 w0 p2@2{2,13,22,31} a0 v- y![] r[] o[] x{} b0" ∷
+    "= 47" ∷
+    "13 ExchangeActions c4 g2 w0 p2@2{2,13,22,31} a0 v- y![] r[] o[] x{} b0" ∷
+    "= 48" ∷
+    "22 ExchangeActions c4 g2 w0 p2@2{2,13,22,31} a0 v- y![] r[22:2] o[] x{} b0" ∷
     "= 49" ∷
-    "made 1:3 put \"a\" 1" ∷
-    "1 NonPrim c3 g5 w0 p1@1{1,2,3,4} a0 v- y![] r[] o[1:3] x{3} b0" ∷
+    "31 ExchangeActions c4 g2 w0 p2@2{2,13,22,31} a0 v- y![] r[] o[] x{} b0" ∷
     "= 51" ∷
-    "4 Down" ∷
-    "refused 30 10 2" ∷
+    "2 Construct c4 g2 w0 p2@2{2,13,22,31} a1 v4/2{2,13,22,31}{2} y![] r[22:2] o[] x{} b0" ∷
+    "= 52" ∷
+    "13 Construct c4 g2 w0 p2@2{2,13,22,31} a1 v4/2{2,13,22,31}{13} y![] r[22:2] o[] x{} b0" ∷
+    "= 53" ∷
+    "22 Construct c4 g2 w0 p2@2{2,13,22,31} a1 v4/2{2,13,22,31}{22} y![] r[22:2] o[] x{} b0" ∷
+    "= 54" ∷
+    "31 Construct c4 g2 w0 p2@2{2,13,22,31} a1 v4/2{2,13,22,31}{31} y![] r[22:2] o[] x{} b0" ∷
+    "= 56" ∷
+    "order 3 22:2" ∷
+    "2 RegPrim c4 g3 w0 p3@4{2,13,22,31} a0 v4/2{2,13,22,31}{2} y- r[] o[] x{} b0" ∷
+    "= 57" ∷
+    "13 RegPrim c4 g3 w0 p3@4{2,13,22,31} a0 v4/2{2,13,22,31}{13} y- r[] o[] x{} b0" ∷
+    "= 58" ∷
+    "22 RegPrim c4 g3 w0 p3@4{2,13,22,31} a0 v4/2{2,13,22,31}{22} y- r[] o[] x{} b0" ∷
+    "reply 22:2 done" ∷
+    "= 59" ∷
+    "31 RegPrim c4 g3 w0 p3@4{2,13,22,31} a0 v4/2{2,13,22,31}{31} y- r[] o[] x{} b0" ∷
+    "= 60" ∷
+    "made 31:1 move \"b\" \"z\" 8; put \"y\" 97; put \"z\" 44; inc \"z\" 10; del \"x\"; cas \"b\" -1 \"; ? #\"; put \"b\" 9223372036854775806; inc \"a\" -9223372036854775808; cas \"z\" 65 16; cas \"ab\" \"\" 99; put \"b\" 3; inc \"z\" 8; inc \"b\" -2; inc \"x\" 10; inc \"y\" -3; del \"z\"" ∷
+    "31 RegPrim c4 g3 w0 p3@4{2,13,22,31} a0 v4/2{2,13,22,31}{31} y- r[] o[31:1] x{} b0" ∷
+    "= 61" ∷
+    "made 31:2 need \"z\" absent" ∷
+    "31 RegPrim c4 g3 w0 p3@4{2,13,22,31} a0 v4/2{2,13,22,31}{31} y- r[] o[31:1,31:2] x{} b0" ∷
+    "= 62" ∷
+    "made 2:2 put \"x\" 5; put \"a\" \"hi\"; del \"y\"; inc \"x\" 0; inc \"z\" 4; move \"x\" \"y\" 5; inc \"b\" -1; inc \"z\" 10; move \"b\" \"ab\" 5; cas \"b\" absent 49; put \"y\" 43; inc \"k2\" -2; inc \"z\" 3; inc \"z\" -3; inc \"y\" 9; need \"z\" 66 ? get \"b\"" ∷
+    "2 RegPrim c4 g3 w0 p3@4{2,13,22,31} a0 v4/2{2,13,22,31}{2} y- r[] o[2:2] x{} b0" ∷
+    "= 64" ∷
+    "order 4 2:2" ∷
+    "order 5 31:1" ∷
+    "order 6 31:2" ∷
+    "2 RegPrim c4 g6 w0 p3@4{2,13,22,31} a0 v4/2{2,13,22,31}{2} y- r[] o[] x{} b0" ∷
+    "reply 2:2 aborted 9 ? absent" ∷
+    "= 65" ∷
+    "13 RegPrim c4 g6 w0 p3@4{2,13,22,31} a0 v4/2{2,13,22,31}{13} y- r[] o[] x{} b0" ∷
+    "= 66" ∷
+    "22 RegPrim c4 g6 w0 p3@4{2,13,22,31} a0 v4/2{2,13,22,31}{22} y- r[] o[] x{} b0" ∷
+    "= 67" ∷
+    "31 RegPrim c4 g6 w0 p3@4{2,13,22,31} a0 v4/2{2,13,22,31}{31} y- r[] o[] x{} b0" ∷
+    "reply 31:1 aborted 1" ∷
+    "reply 31:2 done" ∷
+    "= 68" ∷
+    "made 31:3 need \"z\" absent" ∷
+    "31 RegPrim c4 g6 w0 p3@4{2,13,22,31} a0 v4/2{2,13,22,31}{31} y- r[] o[31:3] x{} b0" ∷
+    "= 71" ∷
+    "made 13:1 inc \"y\" 12" ∷
+    "13 RegPrim c4 g6 w0 p3@4{2,13,22,31} a0 v4/2{2,13,22,31}{13} y- r[] o[13:1] x{} b0" ∷
+    "= 72" ∷
+    "2 TransPrim t4 g6 w0 p3@4{2,13,22,31} a0 v4/2{2,13,22,31}{2} y?[31:3] r[] o[] x{} b0" ∷
+    "13 TransPrim t4 g6 w0 p3@4{2,13,22,31} a0 v4/2{2,13,22,31}{13} y?[31:3] r[] o[13:1] x{} b0" ∷
+    "22 TransPrim t4 g6 w0 p3@4{2,13,22,31} a0 v4/2{2,13,22,31}{22} y?[31:3] r[] o[] x{} b0" ∷
+    "31 TransPrim t4 g6 w0 p3@4{2,13,22,31} a0 v4/2{2,13,22,31}{31} y?[31:3] r[] o[] x{} b0" ∷
+    "= 73" ∷
+    "2 ExchangeStates c5 g6 w0 p3@4{2,13,22,31} a0 v- y![31:3] r[] o[] x{} b0" ∷
+    "13 ExchangeStates c5 g6 w0 p3@4{2,13,22,31} a0 v- y![31:3] r[13:1] o[] x{} b0" ∷
+    "22 ExchangeStates c5 g6 w0 p3@4{2,13,22,31} a0 v- y![31:3] r[] o[] x{} b0" ∷
+    "31 ExchangeStates c5 g6 w0 p3@4{2,13,22,31} a0 v- y![31:3] r[] o[] x{} b0" ∷
+    "= 74" ∷
+    "2 NonPrim t5 g6 w0 p3@4{2,13,22,31} a0 v- y![31:3] r[] o[] x{} b0" ∷
+    "22 NonPrim t5 g6 w0 p3@4{2,13,22,31} a0 v- y![31:3] r[] o[] x{} b0" ∷
+    "31 NonPrim t5 g6 w0 p3@4{2,13,22,31} a0 v- y![31:3] r[] o[] x{} b0" ∷
+    "= 78" ∷
+    "31 NonPrim t5 g6 w0 p3@4{2,13,22,31} a0 v- y![31:3] r[] o[] x{} b1" ∷
+    "= 79" ∷
+    "22 NonPrim t5 g6 w0 p3@4{2,13,22,31} a0 v- y![31:3] r[] o[] x{} b1" ∷
+    "= 80" ∷
+    "all [2:1,22:1,22:2,2:2,31:1,31:2]" ∷
+    "= 82" ∷
+    "31 NonPrim t5 g6 w0 p3@4{2,13,22,31} a0 v- y![31:3] r[] o[] x{} b2" ∷
+    "= 83" ∷
+    "22 NonPrim t5 g6 w0 p3@4{2,13,22,31} a0 v- y![31:3] r[] o[] x{} b2" ∷
+    "= 85" ∷
+    "13 ExchangeStates c5 g6 w0 p3@4{2,13,22,31} a0 v- y![31:3] r[13:1] o[] x{} b1" ∷
+    "= 86" ∷
+    "2 NonPrim t5 g6 w0 p3@4{2,13,22,31} a0 v- y![31:3] r[] o[] x{} b1" ∷
+    "= 87" ∷
+    "13 NonPrim t5 g6 w0 p3@4{2,13,22,31} a0 v- y![31:3] r[13:1] o[] x{} b1" ∷
+    "= 88" ∷
+    "2 ExchangeStates c6 g6 w0 p3@4{2,13,22,31} a0 v- y![31:3] r[] o[] x{} b1" ∷
+    "13 ExchangeStates c6 g6 w0 p3@4{2,13,22,31} a0 v- y![31:3] r[13:1] o[] x{} b1" ∷
+    "22 ExchangeStates c6 g6 w0 p3@4{2,13,22,31} a0 v- y![31:3] r[] o[] x{} b2" ∷
+    "31 ExchangeStates c6 g6 w0 p3@4{2,13,22,31} a0 v- y![31:3] r[] o[] x{} b2" ∷
+    "= 89" ∷
+    "22 ExchangeStates c6 g6 w0 p3@4{2,13,22,31} a0 v- y![31:3] r[] o[] x{} b3" ∷
+    "= 90" ∷
+    "22 ExchangeStates c6 g6 w0 p3@4{2,13,22,31} a0 v- y![31:3] r[] o[] x{} b4" ∷
+    "end 91" ∷
     [])
 unfolding cases_compute
-four_replicas_primary_lost_and_reds_ordered_crash_in_a_device_call_leaver_refused_a = refl
+four_replicas_primary_lost_and_reds_ordered_a = refl
 
--- Replicas at the start: 4: a primary is lost in a partition, and after a merge red actions are ordered; a crash strikes inside a device call; the last event is refused.
-four_replicas_primary_lost_and_reds_ordered_crash_in_a_device_call_refused_a :
+-- Replicas at the start: 4: a primary is lost in a partition, and after a merge red actions are ordered; a crash strikes inside a device call.
+four_replicas_primary_lost_and_reds_ordered_crash_in_a_device_call_a_from_discarding :
     replayed_text (
     "start 1 2 3 4" ∷
     "merge 1 2 3 4" ∷
-    "rounds 2" ∷
-    "request 3 put \"b\" -9223372036854775807 ? count" ∷
-    "request 2 del \"k1\"" ∷
-    "fail 2 12" ∷
-    "request 4 inc \"y\" 4" ∷
-    "request 4 put \"z\" 48" ∷
-    "order 3" ∷
     "rounds 3" ∷
-    "show order" ∷
-    "request 3 need \"x\" -9; del \"x\"; put \"b\" 70; put \"b\" 42; put \"y\" 78; inc \"k2\" -3; move \"x\" \"x\" 5; need \"y\" 47; inc \"z\" -1; need \"z\" absent; inc \"a\" 9223372036854775807; inc \"a\" -1; inc \"k1\" -1; put \"z\" 91; inc \"z\" 7; inc \"abc\" 9 ? get \"a\"" ∷
-    "show order" ∷
-    "request 4 put \"abc\" 36; cas \"a\" 49 \"yes \\\"no\\\"\"; move \"z\" \"b\" 6" ∷
-    "recover 2" ∷
-    "show order" ∷
-    "split 1 3 4" ∷
-    "merge 1 2 3 4" ∷
-    "order 4" ∷
-    "order 1" ∷
+    "stop 3 8 01" ∷
+    "request 1 put \"y\" \"v\"" ∷
+    "rounds 1" ∷
+    "split 2 3" ∷
+    "request 1 inc \"b\" -1" ∷
+    "request 3 put \"x\" 21 ? count" ∷
+    "request 2 ? get \"k1\"" ∷
     "gather" ∷
-    "deliver 1 2" ∷
-    "deliver 3 4" ∷
-    "deliver 1 2" ∷
-    "split 1 2 3 4" ∷
-    "request 3 inc \"z\" 1; cas \"ab\" absent 38; put \"x\" \"\"" ∷
+    "split 1 4" ∷
     "merge 1 2 3 4" ∷
-    "request 4 ? keys \"ab\"" ∷
-    "rounds 3" ∷
-    "rounds 3" ∷
-    "split 1 2 3 4" ∷
-    "merge 1 2 3 4" ∷
-    "split 1 2 3 4" ∷
-    "merge 1 2 3 4" ∷
-    "order 4" ∷
-    "gather" ∷
-    "split 1 2 3 4" ∷
-    "merge 1 2 3 4" ∷
-    "order 4" ∷
-    "receive 1 1" ∷
-    "rounds 3" ∷
-    "gather" ∷
-    "request 1 put \"ab\" 10; move \"a\" \"x\" 5 ? count" ∷
-    "request 2 inc \"x\" -1 ? get \"a\"" ∷
-    "show 4" ∷
-    "request 4 need \"b\" absent" ∷
-    "order 4" ∷
-    "show 4" ∷
-    "receive 1 9" ∷
-    "gather" ∷
-    "split 2 4" ∷
-    "deliver 1 2" ∷
-    "request 4 inc \"a\" -9223372036854775808 ? get \"x\"" ∷
+    "request 4 cas \"z\" 11 41 ? keys \"k\"" ∷
+    "request 2 cas \"x\" 4 52" ∷
+    "request 4 put \"z\" -2; del \"z\"; inc \"a\" 7 ? count" ∷
+    "recover 3" ∷
     "split 1 2 4" ∷
+    "merge 1 2 3 4" ∷
+    "rounds 2" ∷
+    "request 3 need \"abc\" \"TTTTTTTTTTTTTTTTTTTTTTTTTTTTTTTTTTTTTTTTTTTTTTTTTTTTTTTTTTTTTTTTTTTTTTTTTTTTTTTTTTTTTTTTTTTTTTTTTTTTTTTTTTTTTTTTTTTTTTTTTTTTTTTTTTTTTTTTTTTTTTTTTTTTTTTTTTTTTTTTTTTTTTTTTTTTTTTTTTTTTTTTTTTTTTTTTTTTTTTTTTTTTTTTTTTTTTTTTTTTTTTTTTTTTTTTTTTTTTTTTTTTTTTTTTTTTTTTTTTTTTTTTTTTTTTTTTTTTTTTTTTTTTTTTTTTTTTTTTTTTTTTTTTTTTTTTTTTTTTTTTTTTTTTTTTTTTTTTTTTTTTTTTTTTTTTTTTTTTTTTTTTTTTTTTTTTTTTTTTTTTTTTTTTTTTTTTTTTTTTTTTTTTTTTTTTTTTTTTTTTTTTTTTTTTTTTTTTTTTTTTTTTTTTTTTTTTTTTTTTTTTTTTTTTTTTTTTTTTTTTTTTTTTTTTTTTTTTTTTTTTTTTTTTTTTTTTTTTTTTTTTTTTTTTTTTTTTTTTTTTTTTTTTTTTTTTTTTTTTTTTTTTTTTTTTTTTTTTTTTTTTTTTTTTTTTTTTTTTTTTTTTTTTTTTTTTTTTTTTTTTTTTTTTTTTTTTTTTTTTTTTTTTTTTTTTTTTTTTTTTTTTTTTTTTTTTTTTTTTTTTTTTTTTTTTTTTTTTTTTTTTTTTTTTTTTTTTTTTTTTTTTTTTTTTTTTTTTTTTTTTTTTTTTTTTTTTTTTTTTTTTTTTTTTTTTTTTTTTTTTTTTTTTTTTTTTTTTTTTTTTTTTTTTTTTTTTTTTTTTTTTTTTTTTTTTTTTTTTTTTTTTTTTTTTTTTTTTTTTTTTTTTTTTTTTTTTTTTTTTTTTTTTTTTTTTTTTTTTTTTTTTTTTTTTTTTTTTTTTTTTTTTTTTTTTTTTTTTTTTTTTTTTTTTTTTTTTTTTTTTTTTTTTTTTTTTTTTTTTTTTTTTTTTTTTTTTTTTTTTTTTTTTTTTTTTTTTTTTTTTTTT\"" ∷
+    "gather" ∷
+    "rounds 2" ∷
+    "rounds 2" ∷
+    "rounds 1" ∷
+    "gather" ∷
+    "rounds 2" ∷
+    "gather" ∷
+    "rounds 1" ∷
+    "gather" ∷
+    "split 1 2 3 4" ∷
+    "merge 1 2 3 4" ∷
+    "rounds 2" ∷
+    "stop 1 2 01" ∷
+    "gather" ∷
+    "request 4 need \"k1\" absent" ∷
+    "request 4 move \"k1\" \"x\" 0" ∷
+    "split 1 2" ∷
+    "split 3 4" ∷
+    "merge 1 2 3 4" ∷
+    "rounds 1" ∷
+    "split 3 4" ∷
+    "recover 1" ∷
+    "split 2" ∷
+    "merge 1 2 3 4" ∷
+    "rounds 1" ∷
+    "rounds 3" ∷
     "end" ∷
     [])
     ≡ written (
@@ -540,153 +538,189 @@ four_replicas_primary_lost_and_reds_ordered_crash_in_a_device_call_refused_a :
     "3 RegPrim c1 g0 w0 p1@1{1,2,3,4} a0 v1/0{1,2,3,4}{3} y- r[] o[] x{} b0" ∷
     "= 12" ∷
     "4 RegPrim c1 g0 w0 p1@1{1,2,3,4} a0 v1/0{1,2,3,4}{4} y- r[] o[] x{} b0" ∷
-    "= 13" ∷
-    "made 3:1 put \"b\" -9223372036854775807 ? count" ∷
-    "3 RegPrim c1 g0 w0 p1@1{1,2,3,4} a0 v1/0{1,2,3,4}{3} y- r[] o[3:1] x{} b0" ∷
-    "= 14" ∷
-    "made 2:1 del \"k1\"" ∷
-    "2 RegPrim c1 g0 w0 p1@1{1,2,3,4} a0 v1/0{1,2,3,4}{2} y- r[] o[2:1] x{} b0" ∷
-    "= 16" ∷
-    "made 4:1 inc \"y\" 4" ∷
-    "4 RegPrim c1 g0 w0 p1@1{1,2,3,4} a0 v1/0{1,2,3,4}{4} y- r[] o[4:1] x{} b0" ∷
+    "= 15" ∷
+    "made 1:1 put \"y\" \"v\"" ∷
+    "1 RegPrim c1 g0 w0 p1@1{1,2,3,4} a0 v1/0{1,2,3,4}{1} y- r[] o[1:1] x{} b0" ∷
     "= 17" ∷
-    "made 4:2 put \"z\" 48" ∷
-    "4 RegPrim c1 g0 w0 p1@1{1,2,3,4} a0 v1/0{1,2,3,4}{4} y- r[] o[4:1,4:2] x{} b0" ∷
-    "= 20" ∷
-    "order 1 3:1" ∷
-    "order 2 2:1" ∷
-    "order 3 4:1" ∷
-    "order 4 4:2" ∷
-    "1 RegPrim c1 g4 w0 p1@1{1,2,3,4} a0 v1/0{1,2,3,4}{1} y- r[] o[] x{} b0" ∷
-    "= 21" ∷
-    "2 RegPrim c1 g4 w0 p1@1{1,2,3,4} a0 v1/0{1,2,3,4}{2} y- r[] o[] x{} b0" ∷
-    "reply 2:1 done" ∷
-    "= 22" ∷
-    "3 RegPrim c1 g4 w0 p1@1{1,2,3,4} a0 v1/0{1,2,3,4}{3} y- r[] o[] x{} b0" ∷
-    "reply 3:1 done ? count 1" ∷
-    "= 23" ∷
-    "4 RegPrim c1 g4 w0 p1@1{1,2,3,4} a0 v1/0{1,2,3,4}{4} y- r[] o[] x{} b0" ∷
-    "reply 4:1 done" ∷
-    "reply 4:2 done" ∷
-    "= 26" ∷
-    "all [3:1,2:1,4:1,4:2]" ∷
-    "= 27" ∷
-    "made 3:2 need \"x\" -9; del \"x\"; put \"b\" 70; put \"b\" 42; put \"y\" 78; inc \"k2\" -3; move \"x\" \"x\" 5; need \"y\" 47; inc \"z\" -1; need \"z\" absent; inc \"a\" 9223372036854775807; inc \"a\" -1; inc \"k1\" -1; put \"z\" 91; inc \"z\" 7; inc \"abc\" 9 ? get \"a\"" ∷
-    "3 RegPrim c1 g4 w0 p1@1{1,2,3,4} a0 v1/0{1,2,3,4}{3} y- r[] o[3:2] x{} b0" ∷
-    "= 28" ∷
-    "all [3:1,2:1,4:1,4:2]" ∷
-    "= 29" ∷
-    "made 4:3 put \"abc\" 36; cas \"a\" 49 \"yes \\\"no\\\"\"; move \"z\" \"b\" 6" ∷
-    "4 RegPrim c1 g4 w0 p1@1{1,2,3,4} a0 v1/0{1,2,3,4}{4} y- r[] o[4:3] x{} b0" ∷
-    "refused 15 10 2" ∷
-    [])
-unfolding cases_compute
-four_replicas_primary_lost_and_reds_ordered_crash_in_a_device_call_refused_a = refl
-
--- Replicas at the start: 4: a primary is split; a crash strikes inside a device call.
-four_replicas_primary_split_crash_in_a_device_call_b :
-    replayed_text (
-    "start 14 15 22 23" ∷
-    "merge 14 15 22 23" ∷
-    "rounds 2" ∷
-    "gather" ∷
-    "stop 15 12 4347525549545931000000" ∷
-    "rounds 2" ∷
-    "request 23 inc \"y\" 5 ? get \"x\"" ∷
-    "gather" ∷
-    "deliver 14 1" ∷
-    "request 14 ? get \"z\"" ∷
-    "deliver 22 1" ∷
-    "request 15 inc \"b\" 12" ∷
-    "rounds 4" ∷
-    "request 14 inc \"x\" -1" ∷
-    "request 14 inc \"ab\" 0 ? count" ∷
-    "request 14 put \"b\" 66" ∷
-    "stop 14 1 ffffffffffffffffffffffffffffffffffffffffffffffffffffffffffffffffffffffffffffffffffffffffffffffffffffffffffffffffffffffffffffffffffffffffffffffffffffffffffffffffffffffffffffffffffffffffffffffffffffffff" ∷
-    "request 14 cas \"y\" absent \"hi\" ? get \"x\"" ∷
-    "recover 14" ∷
-    "gather" ∷
-    "gather" ∷
-    "gather" ∷
-    "split 22 23" ∷
-    "merge 14 22 23" ∷
-    "end" ∷
-    [])
-    ≡ written (
-    "= 1" ∷
-    "14 NonPrim - g0 w0 p0@0{14,15,22,23} a0 v- y- r[] o[] x{} b0" ∷
-    "15 NonPrim - g0 w0 p0@0{14,15,22,23} a0 v- y- r[] o[] x{} b0" ∷
-    "22 NonPrim - g0 w0 p0@0{14,15,22,23} a0 v- y- r[] o[] x{} b0" ∷
-    "23 NonPrim - g0 w0 p0@0{14,15,22,23} a0 v- y- r[] o[] x{} b0" ∷
-    "= 2" ∷
-    "14 ExchangeStates c1 g0 w0 p0@0{14,15,22,23} a0 v- y- r[] o[] x{} b0" ∷
-    "15 ExchangeStates c1 g0 w0 p0@0{14,15,22,23} a0 v- y- r[] o[] x{} b0" ∷
-    "22 ExchangeStates c1 g0 w0 p0@0{14,15,22,23} a0 v- y- r[] o[] x{} b0" ∷
-    "23 ExchangeStates c1 g0 w0 p0@0{14,15,22,23} a0 v- y- r[] o[] x{} b0" ∷
-    "= 4" ∷
-    "14 Construct c1 g0 w0 p0@0{14,15,22,23} a1 v1/0{14,15,22,23}{14} y- r[] o[] x{} b0" ∷
-    "= 5" ∷
-    "15 Construct c1 g0 w0 p0@0{14,15,22,23} a1 v1/0{14,15,22,23}{15} y- r[] o[] x{} b0" ∷
-    "= 6" ∷
-    "22 Construct c1 g0 w0 p0@0{14,15,22,23} a1 v1/0{14,15,22,23}{22} y- r[] o[] x{} b0" ∷
-    "= 7" ∷
-    "23 Construct c1 g0 w0 p0@0{14,15,22,23} a1 v1/0{14,15,22,23}{23} y- r[] o[] x{} b0" ∷
-    "= 9" ∷
-    "14 RegPrim c1 g0 w0 p1@1{14,15,22,23} a0 v1/0{14,15,22,23}{14} y- r[] o[] x{} b0" ∷
-    "= 10" ∷
-    "15 RegPrim c1 g0 w0 p1@1{14,15,22,23} a0 v1/0{14,15,22,23}{15} y- r[] o[] x{} b0" ∷
-    "= 11" ∷
-    "22 RegPrim c1 g0 w0 p1@1{14,15,22,23} a0 v1/0{14,15,22,23}{22} y- r[] o[] x{} b0" ∷
-    "= 12" ∷
-    "23 RegPrim c1 g0 w0 p1@1{14,15,22,23} a0 v1/0{14,15,22,23}{23} y- r[] o[] x{} b0" ∷
-    "= 17" ∷
-    "made 23:1 inc \"y\" 5 ? get \"x\"" ∷
-    "23 RegPrim c1 g0 w0 p1@1{14,15,22,23} a0 v1/0{14,15,22,23}{23} y- r[] o[23:1] x{} b0" ∷
+    "order 1 1:1" ∷
+    "1 RegPrim c1 g1 w0 p1@1{1,2,3,4} a0 v1/0{1,2,3,4}{1} y- r[] o[] x{} b0" ∷
+    "reply 1:1 done" ∷
+    "= 18" ∷
+    "2 RegPrim c1 g1 w0 p1@1{1,2,3,4} a0 v1/0{1,2,3,4}{2} y- r[] o[] x{} b0" ∷
     "= 19" ∷
-    "order 1 23:1" ∷
-    "14 RegPrim c1 g1 w0 p1@1{14,15,22,23} a0 v1/0{14,15,22,23}{14} y- r[] o[] x{} b0" ∷
+    "3 RegPrim c1 g1 w0 p1@1{1,2,3,4} a0 v1/0{1,2,3,4}{3} y- r[] o[] x{} b0" ∷
     "= 20" ∷
-    "made 14:1 ? get \"z\"" ∷
-    "14 RegPrim c1 g1 w0 p1@1{14,15,22,23} a0 v1/0{14,15,22,23}{14} y- r[] o[14:1] x{} b0" ∷
+    "4 RegPrim c1 g1 w0 p1@1{1,2,3,4} a0 v1/0{1,2,3,4}{4} y- r[] o[] x{} b0" ∷
     "= 21" ∷
-    "22 RegPrim c1 g1 w0 p1@1{14,15,22,23} a0 v1/0{14,15,22,23}{22} y- r[] o[] x{} b0" ∷
+    "2 TransPrim t1 g1 w0 p1@1{1,2,3,4} a0 v1/0{1,2,3,4}{2} y- r[] o[] x{} b0" ∷
+    "3 TransPrim t1 g1 w0 p1@1{1,2,3,4} a0 v1/0{1,2,3,4}{3} y- r[] o[] x{} b0" ∷
     "= 22" ∷
-    "made 15:1 inc \"b\" 12" ∷
-    "15 RegPrim c1 g0 w0 p1@1{14,15,22,23} a0 v1/0{14,15,22,23}{15} y- r[] o[15:1] x{} b0" ∷
+    "made 1:2 inc \"b\" -1" ∷
+    "1 RegPrim c1 g1 w0 p1@1{1,2,3,4} a0 v1/0{1,2,3,4}{1} y- r[] o[1:2] x{} b0" ∷
+    "= 23" ∷
+    "3 TransPrim t1 g1 w0 p1@1{1,2,3,4} a0 v1/0{1,2,3,4}{3} y- r[] o[] x{} b1" ∷
     "= 24" ∷
-    "order 2 14:1" ∷
-    "order 3 15:1" ∷
-    "14 RegPrim c1 g3 w0 p1@1{14,15,22,23} a0 v1/0{14,15,22,23}{14} y- r[] o[] x{} b0" ∷
-    "reply 14:1 done ? absent" ∷
-    "= 25" ∷
-    "15 RegPrim c1 g3 w0 p1@1{14,15,22,23} a0 v1/0{14,15,22,23}{15} y- r[] o[] x{} b0" ∷
-    "reply 15:1 done" ∷
+    "2 TransPrim t1 g1 w0 p1@1{1,2,3,4} a0 v1/0{1,2,3,4}{2} y- r[] o[] x{} b1" ∷
     "= 26" ∷
-    "22 RegPrim c1 g3 w0 p1@1{14,15,22,23} a0 v1/0{14,15,22,23}{22} y- r[] o[] x{} b0" ∷
+    "1 TransPrim t1 g1 w0 p1@1{1,2,3,4} a0 v1/0{1,2,3,4}{1} y?[1:2] r[] o[] x{} b0" ∷
+    "4 TransPrim t1 g1 w0 p1@1{1,2,3,4} a0 v1/0{1,2,3,4}{4} y?[1:2] r[] o[] x{} b0" ∷
     "= 27" ∷
-    "23 RegPrim c1 g3 w0 p1@1{14,15,22,23} a0 v1/0{14,15,22,23}{23} y- r[] o[] x{} b0" ∷
-    "reply 23:1 done ? absent" ∷
+    "1 ExchangeStates c2 g1 w0 p1@1{1,2,3,4} a0 v- y![1:2] r[] o[] x{} b0" ∷
+    "2 ExchangeStates c2 g1 w0 p1@1{1,2,3,4} a0 v- y![] r[] o[] x{} b1" ∷
+    "3 Down" ∷
+    "4 ExchangeStates c2 g1 w0 p1@1{1,2,3,4} a0 v- y![1:2] r[] o[] x{} b0" ∷
+    "= 28" ∷
+    "4 ExchangeStates c2 g1 w0 p1@1{1,2,3,4} a0 v- y![1:2] r[] o[] x{} b1" ∷
+    "= 29" ∷
+    "2 ExchangeStates c2 g1 w0 p1@1{1,2,3,4} a0 v- y![] r[] o[] x{} b2" ∷
+    "= 30" ∷
+    "4 ExchangeStates c2 g1 w0 p1@1{1,2,3,4} a0 v- y![1:2] r[] o[] x{} b2" ∷
     "= 31" ∷
-    "made 14:2 inc \"x\" -1" ∷
-    "14 RegPrim c1 g3 w0 p1@1{14,15,22,23} a0 v1/0{14,15,22,23}{14} y- r[] o[14:2] x{} b0" ∷
+    "3 NonPrim - g1 w0 p1@1{1,2,3,4} a0 v- y![] r[] o[] x{} b0" ∷
     "= 32" ∷
-    "made 14:3 inc \"ab\" 0 ? count" ∷
-    "14 RegPrim c1 g3 w0 p1@1{14,15,22,23} a0 v1/0{14,15,22,23}{14} y- r[] o[14:2,14:3] x{} b0" ∷
+    "1 NonPrim t2 g1 w0 p1@1{1,2,3,4} a0 v- y![1:2] r[] o[] x{} b0" ∷
+    "2 NonPrim t2 g1 w0 p1@1{1,2,3,4} a0 v- y![] r[] o[] x{} b2" ∷
+    "4 NonPrim t2 g1 w0 p1@1{1,2,3,4} a0 v- y![1:2] r[] o[] x{} b2" ∷
     "= 33" ∷
-    "made 14:4 put \"b\" 66" ∷
-    "14 RegPrim c1 g3 w0 p1@1{14,15,22,23} a0 v1/0{14,15,22,23}{14} y- r[] o[14:2,14:3,14:4] x{} b0" ∷
+    "1 ExchangeStates c3 g1 w0 p1@1{1,2,3,4} a0 v- y![1:2] r[] o[] x{} b0" ∷
+    "2 ExchangeStates c3 g1 w0 p1@1{1,2,3,4} a0 v- y![] r[] o[] x{} b2" ∷
+    "3 ExchangeStates c3 g1 w0 p1@1{1,2,3,4} a0 v- y![] r[] o[] x{} b0" ∷
+    "4 ExchangeStates c3 g1 w0 p1@1{1,2,3,4} a0 v- y![1:2] r[] o[] x{} b2" ∷
     "= 35" ∷
-    "14 Down" ∷
+    "1 ExchangeActions c3 g1 w0 p1@1{1,2,3,4} a0 v- y![1:2] r[] o[] x{} b0" ∷
     "= 36" ∷
-    "14 NonPrim - g3 w0 p1@1{14,15,22,23} a0 v1/0{14,15,22,23}{14} y- r[14:2,14:3,14:4] o[] x{} b0" ∷
+    "2 ExchangeActions c3 g1 w0 p1@1{1,2,3,4} a0 v- y![] r[] o[] x{} b2" ∷
+    "= 37" ∷
+    "3 ExchangeActions c3 g1 w0 p1@1{1,2,3,4} a0 v- y![] r[] o[] x{} b0" ∷
+    "= 38" ∷
+    "4 ExchangeActions c3 g1 w0 p1@1{1,2,3,4} a0 v- y![1:2] r[] o[] x{} b2" ∷
     "= 40" ∷
-    "22 TransPrim t1 g3 w0 p1@1{14,15,22,23} a0 v1/0{14,15,22,23}{22} y- r[] o[] x{} b0" ∷
-    "23 TransPrim t1 g3 w0 p1@1{14,15,22,23} a0 v1/0{14,15,22,23}{23} y- r[] o[] x{} b0" ∷
+    "1 Construct c3 g1 w0 p1@1{1,2,3,4} a1 v3/1{1,2,3,4}{1} y![] r[1:2] o[] x{} b0" ∷
     "= 41" ∷
-    "14 ExchangeStates c2 g3 w0 p1@1{14,15,22,23} a0 v1/0{14,15,22,23}{14} y- r[14:2,14:3,14:4] o[] x{} b0" ∷
-    "22 ExchangeStates c2 g3 w0 p1@1{14,15,22,23} a0 v- y![] r[] o[] x{} b0" ∷
-    "23 ExchangeStates c2 g3 w0 p1@1{14,15,22,23} a0 v- y![] r[] o[] x{} b0" ∷
-    "end 41" ∷
+    "2 Construct c3 g1 w0 p1@1{1,2,3,4} a1 v3/1{1,2,3,4}{2} y![] r[1:2] o[] x{} b2" ∷
+    "= 42" ∷
+    "3 Construct c3 g1 w0 p1@1{1,2,3,4} a1 v3/1{1,2,3,4}{3} y![] r[1:2] o[] x{} b0" ∷
+    "= 43" ∷
+    "4 Construct c3 g1 w0 p1@1{1,2,3,4} a1 v3/1{1,2,3,4}{4} y![] r[1:2] o[] x{} b2" ∷
+    "= 44" ∷
+    "3 Construct c3 g1 w0 p1@1{1,2,3,4} a1 v3/1{1,2,3,4}{3} y![] r[1:2] o[] x{} b1" ∷
+    "= 47" ∷
+    "order 2 1:2" ∷
+    "1 RegPrim c3 g2 w0 p2@3{1,2,3,4} a0 v3/1{1,2,3,4}{1} y- r[] o[] x{} b0" ∷
+    "reply 1:2 done" ∷
+    "= 48" ∷
+    "made 2:1 ? get \"k1\"" ∷
+    "made 2:2 cas \"x\" 4 52" ∷
+    "2 RegPrim c3 g2 w0 p2@3{1,2,3,4} a0 v3/1{1,2,3,4}{2} y- r[] o[2:1,2:2] x{} b0" ∷
+    "= 49" ∷
+    "made 3:1 need \"abc\" \"TTTTTTTTTTTTTTTTTTTTTTTTTTTTTTTTTTTTTTTTTTTTTTTTTTTTTTTTTTTTTTTTTTTTTTTTTTTTTTTTTTTTTTTTTTTTTTTTTTTTTTTTTTTTTTTTTTTTTTTTTTTTTTTTTTTTTTTTTTTTTTTTTTTTTTTTTTTTTTTTTTTTTTTTTTTTTTTTTTTTTTTTTTTTTTTTTTTTTTTTTTTTTTTTTTTTTTTTTTTTTTTTTTTTTTTTTTTTTTTTTTTTTTTTTTTTTTTTTTTTTTTTTTTTTTTTTTTTTTTTTTTTTTTTTTTTTTTTTTTTTTTTTTTTTTTTTTTTTTTTTTTTTTTTTTTTTTTTTTTTTTTTTTTTTTTTTTTTTTTTTTTTTTTTTTTTTTTTTTTTTTTTTTTTTTTTTTTTTTTTTTTTTTTTTTTTTTTTTTTTTTTTTTTTTTTTTTTTTTTTTTTTTTTTTTTTTTTTTTTTTTTTTTTTTTTTTTTTTTTTTTTTTTTTTTTTTTTTTTTTTTTTTTTTTTTTTTTTTTTTTTTTTTTTTTTTTTTTTTTTTTTTTTTTTTTTTTTTTTTTTTTTTTTTTTTTTTTTTTTTTTTTTTTTTTTTTTTTTTTTTTTTTTTTTTTTTTTTTTTTTTTTTTTTTTTTTTTTTTTTTTTTTTTTTTTTTTTTTTTTTTTTTTTTTTTTTTTTTTTTTTTTTTTTTTTTTTTTTTTTTTTTTTTTTTTTTTTTTTTTTTTTTTTTTTTTTTTTTTTTTTTTTTTTTTTTTTTTTTTTTTTTTTTTTTTTTTTTTTTTTTTTTTTTTTTTTTTTTTTTTTTTTTTTTTTTTTTTTTTTTTTTTTTTTTTTTTTTTTTTTTTTTTTTTTTTTTTTTTTTTTTTTTTTTTTTTTTTTTTTTTTTTTTTTTTTTTTTTTTTTTTTTTTTTTTTTTTTTTTTTTTTTTTTTTTTTTTTTTTTTTTTTTTTTTTTTTTTTTTTTTTTTTTTTTTTTTTTTTTTTTTTTTTTTTTTTTTTTTTTTTTTTTTTTTTTTTTTTTTTTTTT\"" ∷
+    "3 RegPrim c3 g2 w0 p2@3{1,2,3,4} a0 v3/1{1,2,3,4}{3} y- r[] o[3:1] x{} b0" ∷
+    "= 50" ∷
+    "made 4:1 cas \"z\" 11 41 ? keys \"k\"" ∷
+    "made 4:2 put \"z\" -2; del \"z\"; inc \"a\" 7 ? count" ∷
+    "4 RegPrim c3 g2 w0 p2@3{1,2,3,4} a0 v3/1{1,2,3,4}{4} y- r[] o[4:1,4:2] x{} b0" ∷
+    "= 52" ∷
+    "order 3 2:1" ∷
+    "order 4 2:2" ∷
+    "order 5 3:1" ∷
+    "order 6 4:1" ∷
+    "order 7 4:2" ∷
+    "1 RegPrim c3 g7 w1 p2@3{1,2,3,4} a0 v3/1{1,2,3,4}{1} y- r[] o[] x{} b0" ∷
+    "= 53" ∷
+    "2 RegPrim c3 g7 w1 p2@3{1,2,3,4} a0 v3/1{1,2,3,4}{2} y- r[] o[] x{} b0" ∷
+    "reply 2:1 done ? absent" ∷
+    "reply 2:2 done" ∷
+    "= 54" ∷
+    "3 RegPrim c3 g7 w1 p2@3{1,2,3,4} a0 v3/1{1,2,3,4}{3} y- r[] o[] x{} b0" ∷
+    "reply 3:1 aborted 1" ∷
+    "= 55" ∷
+    "4 RegPrim c3 g7 w1 p2@3{1,2,3,4} a0 v3/1{1,2,3,4}{4} y- r[] o[] x{} b0" ∷
+    "reply 4:1 done ? keys" ∷
+    "reply 4:2 done ? count 3" ∷
+    "= 65" ∷
+    "1 TransPrim t3 g7 w1 p2@3{1,2,3,4} a0 v3/1{1,2,3,4}{1} y- r[] o[] x{} b0" ∷
+    "2 TransPrim t3 g7 w1 p2@3{1,2,3,4} a0 v3/1{1,2,3,4}{2} y- r[] o[] x{} b0" ∷
+    "3 TransPrim t3 g7 w1 p2@3{1,2,3,4} a0 v3/1{1,2,3,4}{3} y- r[] o[] x{} b0" ∷
+    "4 TransPrim t3 g7 w1 p2@3{1,2,3,4} a0 v3/1{1,2,3,4}{4} y- r[] o[] x{} b0" ∷
+    "= 66" ∷
+    "1 ExchangeStates c4 g7 w1 p2@3{1,2,3,4} a0 v- y![] r[] o[] x{} b0" ∷
+    "2 ExchangeStates c4 g7 w1 p2@3{1,2,3,4} a0 v- y![] r[] o[] x{} b0" ∷
+    "3 ExchangeStates c4 g7 w1 p2@3{1,2,3,4} a0 v- y![] r[] o[] x{} b0" ∷
+    "4 ExchangeStates c4 g7 w1 p2@3{1,2,3,4} a0 v- y![] r[] o[] x{} b0" ∷
+    "= 68" ∷
+    "1 Construct c4 g7 w1 p2@3{1,2,3,4} a1 v4/2{1,2,3,4}{1} y![] r[] o[] x{} b0" ∷
+    "= 69" ∷
+    "2 Construct c4 g7 w1 p2@3{1,2,3,4} a1 v4/2{1,2,3,4}{2} y![] r[] o[] x{} b0" ∷
+    "= 70" ∷
+    "3 Construct c4 g7 w1 p2@3{1,2,3,4} a1 v4/2{1,2,3,4}{3} y![] r[] o[] x{} b0" ∷
+    "= 71" ∷
+    "4 Construct c4 g7 w1 p2@3{1,2,3,4} a1 v4/2{1,2,3,4}{4} y![] r[] o[] x{} b0" ∷
+    "= 73" ∷
+    "1 RegPrim c4 g7 w1 p3@4{1,2,3,4} a0 v4/2{1,2,3,4}{1} y- r[] o[] x{} b0" ∷
+    "= 74" ∷
+    "2 RegPrim c4 g7 w1 p3@4{1,2,3,4} a0 v4/2{1,2,3,4}{2} y- r[] o[] x{} b0" ∷
+    "= 75" ∷
+    "3 RegPrim c4 g7 w1 p3@4{1,2,3,4} a0 v4/2{1,2,3,4}{3} y- r[] o[] x{} b0" ∷
+    "= 76" ∷
+    "4 RegPrim c4 g7 w1 p3@4{1,2,3,4} a0 v4/2{1,2,3,4}{4} y- r[] o[] x{} b0" ∷
+    "= 79" ∷
+    "made 4:3 need \"k1\" absent" ∷
+    "4 RegPrim c4 g7 w1 p3@4{1,2,3,4} a0 v4/2{1,2,3,4}{4} y- r[] o[4:3] x{} b0" ∷
+    "= 80" ∷
+    "made 4:4 move \"k1\" \"x\" 0" ∷
+    "4 RegPrim c4 g7 w1 p3@4{1,2,3,4} a0 v4/2{1,2,3,4}{4} y- r[] o[4:3,4:4] x{} b0" ∷
+    "= 81" ∷
+    "1 TransPrim t4 g7 w1 p3@4{1,2,3,4} a0 v4/2{1,2,3,4}{1} y- r[] o[] x{} b0" ∷
+    "2 TransPrim t4 g7 w1 p3@4{1,2,3,4} a0 v4/2{1,2,3,4}{2} y- r[] o[] x{} b0" ∷
+    "= 82" ∷
+    "3 TransPrim t4 g7 w1 p3@4{1,2,3,4} a0 v4/2{1,2,3,4}{3} y- r[] o[] x{} b0" ∷
+    "4 TransPrim t4 g7 w1 p3@4{1,2,3,4} a0 v4/2{1,2,3,4}{4} y- r[] o[4:3,4:4] x{} b0" ∷
+    "= 83" ∷
+    "1 Down" ∷
+    "2 ExchangeStates c5 g7 w1 p3@4{1,2,3,4} a0 v- y![] r[] o[] x{} b0" ∷
+    "3 ExchangeStates c5 g7 w1 p3@4{1,2,3,4} a0 v- y![] r[] o[] x{} b0" ∷
+    "4 ExchangeStates c5 g7 w1 p3@4{1,2,3,4} a0 v- y![] r[4:3,4:4] o[] x{} b0" ∷
+    "= 85" ∷
+    "3 NonPrim t5 g7 w1 p3@4{1,2,3,4} a0 v- y![] r[] o[] x{} b0" ∷
+    "4 NonPrim t5 g7 w1 p3@4{1,2,3,4} a0 v- y![] r[4:3,4:4] o[] x{} b0" ∷
+    "= 86" ∷
+    "1 NonPrim - g7 w1 p3@4{1,2,3,4} a0 v4/2{1,2,3,4}{1} y- r[] o[] x{} b0" ∷
+    "= 87" ∷
+    "2 NonPrim t5 g7 w1 p3@4{1,2,3,4} a0 v- y![] r[] o[] x{} b0" ∷
+    "= 88" ∷
+    "1 ExchangeStates c6 g7 w1 p3@4{1,2,3,4} a0 v4/2{1,2,3,4}{1} y- r[] o[] x{} b0" ∷
+    "2 ExchangeStates c6 g7 w1 p3@4{1,2,3,4} a0 v- y![] r[] o[] x{} b0" ∷
+    "3 ExchangeStates c6 g7 w1 p3@4{1,2,3,4} a0 v- y![] r[] o[] x{} b0" ∷
+    "4 ExchangeStates c6 g7 w1 p3@4{1,2,3,4} a0 v- y![] r[4:3,4:4] o[] x{} b0" ∷
+    "= 90" ∷
+    "1 ExchangeActions c6 g7 w1 p3@4{1,2,3,4} a0 v4/2{1,2,3,4}{1} y- r[] o[] x{} b0" ∷
+    "= 91" ∷
+    "2 ExchangeActions c6 g7 w1 p3@4{1,2,3,4} a0 v- y![] r[] o[] x{} b0" ∷
+    "= 92" ∷
+    "3 ExchangeActions c6 g7 w1 p3@4{1,2,3,4} a0 v- y![] r[] o[] x{} b0" ∷
+    "= 93" ∷
+    "4 ExchangeActions c6 g7 w1 p3@4{1,2,3,4} a0 v- y![] r[4:3,4:4] o[] x{} b0" ∷
+    "= 95" ∷
+    "1 Construct c6 g7 w1 p3@4{1,2,3,4} a1 v6/3{1,2,3,4}{1} y![] r[4:3,4:4] o[] x{} b0" ∷
+    "= 96" ∷
+    "2 Construct c6 g7 w1 p3@4{1,2,3,4} a1 v6/3{1,2,3,4}{2} y![] r[4:3,4:4] o[] x{} b0" ∷
+    "= 97" ∷
+    "3 Construct c6 g7 w1 p3@4{1,2,3,4} a1 v6/3{1,2,3,4}{3} y![] r[4:3,4:4] o[] x{} b0" ∷
+    "= 98" ∷
+    "4 Construct c6 g7 w1 p3@4{1,2,3,4} a1 v6/3{1,2,3,4}{4} y![] r[4:3,4:4] o[] x{} b0" ∷
+    "= 100" ∷
+    "order 8 4:3" ∷
+    "order 9 4:4" ∷
+    "1 RegPrim c6 g9 w1 p4@6{1,2,3,4} a0 v6/3{1,2,3,4}{1} y- r[] o[] x{} b0" ∷
+    "= 101" ∷
+    "2 RegPrim c6 g9 w1 p4@6{1,2,3,4} a0 v6/3{1,2,3,4}{2} y- r[] o[] x{} b0" ∷
+    "= 102" ∷
+    "3 RegPrim c6 g9 w1 p4@6{1,2,3,4} a0 v6/3{1,2,3,4}{3} y- r[] o[] x{} b0" ∷
+    "= 103" ∷
+    "4 RegPrim c6 g9 w1 p4@6{1,2,3,4} a0 v6/3{1,2,3,4}{4} y- r[] o[] x{} b0" ∷
+    "reply 4:3 done" ∷
+    "reply 4:4 done" ∷
+    "end 104" ∷
     [])
 unfolding cases_compute
-four_replicas_primary_split_crash_in_a_device_call_b = refl
+four_replicas_primary_lost_and_reds_ordered_crash_in_a_device_call_a_from_discarding = refl

@@ -4,673 +4,751 @@ use mathlib.Core.Path.{refl}
 use Rattle.cg_run_cases.specs.Replaying.{replayed_text, written}
 use Rattle.cg_run_cases.specs.Computing.{cases_compute}
 
--- A member that is Left need not be named by a merge.
-merge_without_a_member_that_left_c :
+-- The header of the side that is cleared is torn; the next recovery clears again, or sees that it needs not.
+header_torn_inside_call_16_with_4347525549545900 :
     replayed_text (
-    "start 1 2 3 4 5 6" ∷
-    "merge 1 2 3 4 5 6" ∷
-    "rounds 3" ∷
-    "request 6 need \"y\" 11; inc \"abc\" -2" ∷
-    "leave 5 1" ∷
-    "gather" ∷
-    "deliver 5 2" ∷
-    "split 1 2 3 4 5 6" ∷
-    "merge 1 2 3 4 5 6" ∷
+    "start 1 2 3" ∷
+    "merge 1 2 3" ∷
     "rounds 2" ∷
-    "split 1 2 3 4 6" ∷
-    "merge 2 3 4 6" ∷
-    "end" ∷
-    [])
-    ≡ written (
-    "= 1" ∷
-    "1 NonPrim - g0 w0 p0@0{1,2,3,4,5,6} a0 v- y- r[] o[] x{} b0" ∷
-    "2 NonPrim - g0 w0 p0@0{1,2,3,4,5,6} a0 v- y- r[] o[] x{} b0" ∷
-    "3 NonPrim - g0 w0 p0@0{1,2,3,4,5,6} a0 v- y- r[] o[] x{} b0" ∷
-    "4 NonPrim - g0 w0 p0@0{1,2,3,4,5,6} a0 v- y- r[] o[] x{} b0" ∷
-    "5 NonPrim - g0 w0 p0@0{1,2,3,4,5,6} a0 v- y- r[] o[] x{} b0" ∷
-    "6 NonPrim - g0 w0 p0@0{1,2,3,4,5,6} a0 v- y- r[] o[] x{} b0" ∷
-    "= 2" ∷
-    "1 ExchangeStates c1 g0 w0 p0@0{1,2,3,4,5,6} a0 v- y- r[] o[] x{} b0" ∷
-    "2 ExchangeStates c1 g0 w0 p0@0{1,2,3,4,5,6} a0 v- y- r[] o[] x{} b0" ∷
-    "3 ExchangeStates c1 g0 w0 p0@0{1,2,3,4,5,6} a0 v- y- r[] o[] x{} b0" ∷
-    "4 ExchangeStates c1 g0 w0 p0@0{1,2,3,4,5,6} a0 v- y- r[] o[] x{} b0" ∷
-    "5 ExchangeStates c1 g0 w0 p0@0{1,2,3,4,5,6} a0 v- y- r[] o[] x{} b0" ∷
-    "6 ExchangeStates c1 g0 w0 p0@0{1,2,3,4,5,6} a0 v- y- r[] o[] x{} b0" ∷
-    "= 4" ∷
-    "1 Construct c1 g0 w0 p0@0{1,2,3,4,5,6} a1 v1/0{1,2,3,4,5,6}{1} y- r[] o[] x{} b0" ∷
-    "= 5" ∷
-    "2 Construct c1 g0 w0 p0@0{1,2,3,4,5,6} a1 v1/0{1,2,3,4,5,6}{2} y- r[] o[] x{} b0" ∷
-    "= 6" ∷
-    "3 Construct c1 g0 w0 p0@0{1,2,3,4,5,6} a1 v1/0{1,2,3,4,5,6}{3} y- r[] o[] x{} b0" ∷
-    "= 7" ∷
-    "4 Construct c1 g0 w0 p0@0{1,2,3,4,5,6} a1 v1/0{1,2,3,4,5,6}{4} y- r[] o[] x{} b0" ∷
-    "= 8" ∷
-    "5 Construct c1 g0 w0 p0@0{1,2,3,4,5,6} a1 v1/0{1,2,3,4,5,6}{5} y- r[] o[] x{} b0" ∷
-    "= 9" ∷
-    "6 Construct c1 g0 w0 p0@0{1,2,3,4,5,6} a1 v1/0{1,2,3,4,5,6}{6} y- r[] o[] x{} b0" ∷
-    "= 11" ∷
-    "1 RegPrim c1 g0 w0 p1@1{1,2,3,4,5,6} a0 v1/0{1,2,3,4,5,6}{1} y- r[] o[] x{} b0" ∷
-    "= 12" ∷
-    "2 RegPrim c1 g0 w0 p1@1{1,2,3,4,5,6} a0 v1/0{1,2,3,4,5,6}{2} y- r[] o[] x{} b0" ∷
-    "= 13" ∷
-    "3 RegPrim c1 g0 w0 p1@1{1,2,3,4,5,6} a0 v1/0{1,2,3,4,5,6}{3} y- r[] o[] x{} b0" ∷
-    "= 14" ∷
-    "4 RegPrim c1 g0 w0 p1@1{1,2,3,4,5,6} a0 v1/0{1,2,3,4,5,6}{4} y- r[] o[] x{} b0" ∷
-    "= 15" ∷
-    "5 RegPrim c1 g0 w0 p1@1{1,2,3,4,5,6} a0 v1/0{1,2,3,4,5,6}{5} y- r[] o[] x{} b0" ∷
-    "= 16" ∷
-    "6 RegPrim c1 g0 w0 p1@1{1,2,3,4,5,6} a0 v1/0{1,2,3,4,5,6}{6} y- r[] o[] x{} b0" ∷
-    "= 18" ∷
-    "made 6:1 need \"y\" 11; inc \"abc\" -2" ∷
-    "6 RegPrim c1 g0 w0 p1@1{1,2,3,4,5,6} a0 v1/0{1,2,3,4,5,6}{6} y- r[] o[6:1] x{} b0" ∷
-    "= 19" ∷
-    "made 5:1 leave 1" ∷
-    "5 RegPrim c1 g0 w0 p1@1{1,2,3,4,5,6} a0 v1/0{1,2,3,4,5,6}{5} y- r[] o[5:1] x{} b0" ∷
-    "= 21" ∷
-    "order 1 5:1" ∷
-    "order 2 6:1" ∷
-    "5 RegPrim c1 g2 w0 p1@1{1,2,3,4,5,6} a0 v1/0{1,2,3,4,5,6}{5} y- r[] o[] x{1} b0" ∷
-    "reply 5:1 done" ∷
-    "= 22" ∷
-    "1 TransPrim t1 g2 w0 p1@1{1,2,3,4,5,6} a0 v1/0{1,2,3,4,5,6}{1} y- r[] o[] x{1} b0" ∷
-    "2 TransPrim t1 g2 w0 p1@1{1,2,3,4,5,6} a0 v1/0{1,2,3,4,5,6}{2} y- r[] o[] x{1} b0" ∷
-    "3 TransPrim t1 g2 w0 p1@1{1,2,3,4,5,6} a0 v1/0{1,2,3,4,5,6}{3} y- r[] o[] x{1} b0" ∷
-    "4 TransPrim t1 g2 w0 p1@1{1,2,3,4,5,6} a0 v1/0{1,2,3,4,5,6}{4} y- r[] o[] x{1} b0" ∷
-    "5 TransPrim t1 g2 w0 p1@1{1,2,3,4,5,6} a0 v1/0{1,2,3,4,5,6}{5} y- r[] o[] x{1} b0" ∷
-    "6 TransPrim t1 g2 w0 p1@1{1,2,3,4,5,6} a0 v1/0{1,2,3,4,5,6}{6} y- r[] o[] x{1} b0" ∷
-    "reply 6:1 aborted 1" ∷
-    "= 23" ∷
-    "1 ExchangeStates c2 g2 w0 p1@1{1,2,3,4,5,6} a0 v- y![] r[] o[] x{1} b0" ∷
-    "2 ExchangeStates c2 g2 w0 p1@1{1,2,3,4,5,6} a0 v- y![] r[] o[] x{1} b0" ∷
-    "3 ExchangeStates c2 g2 w0 p1@1{1,2,3,4,5,6} a0 v- y![] r[] o[] x{1} b0" ∷
-    "4 ExchangeStates c2 g2 w0 p1@1{1,2,3,4,5,6} a0 v- y![] r[] o[] x{1} b0" ∷
-    "5 ExchangeStates c2 g2 w0 p1@1{1,2,3,4,5,6} a0 v- y![] r[] o[] x{1} b0" ∷
-    "6 ExchangeStates c2 g2 w0 p1@1{1,2,3,4,5,6} a0 v- y![] r[] o[] x{1} b0" ∷
-    "= 25" ∷
-    "1 Left c2 g2 w0 p1@1{1,2,3,4,5,6} a0 v- y![] r[] o[] x{1} b0" ∷
-    "= 26" ∷
-    "2 Construct c2 g2 w0 p1@1{1,2,3,4,5,6} a1 v2/1{2,3,4,5,6}{2} y![] r[] o[] x{1} b0" ∷
-    "= 27" ∷
-    "3 Construct c2 g2 w0 p1@1{1,2,3,4,5,6} a1 v2/1{2,3,4,5,6}{3} y![] r[] o[] x{1} b0" ∷
-    "= 28" ∷
-    "4 Construct c2 g2 w0 p1@1{1,2,3,4,5,6} a1 v2/1{2,3,4,5,6}{4} y![] r[] o[] x{1} b0" ∷
-    "= 29" ∷
-    "5 Construct c2 g2 w0 p1@1{1,2,3,4,5,6} a1 v2/1{2,3,4,5,6}{5} y![] r[] o[] x{1} b0" ∷
-    "= 30" ∷
-    "6 Construct c2 g2 w0 p1@1{1,2,3,4,5,6} a1 v2/1{2,3,4,5,6}{6} y![] r[] o[] x{1} b0" ∷
-    "= 33" ∷
-    "2 RegPrim c2 g2 w0 p2@2{2,3,4,5,6} a0 v2/1{2,3,4,5,6}{2} y- r[] o[] x{1} b0" ∷
-    "= 34" ∷
-    "3 RegPrim c2 g2 w0 p2@2{2,3,4,5,6} a0 v2/1{2,3,4,5,6}{3} y- r[] o[] x{1} b0" ∷
-    "= 35" ∷
-    "4 RegPrim c2 g2 w0 p2@2{2,3,4,5,6} a0 v2/1{2,3,4,5,6}{4} y- r[] o[] x{1} b0" ∷
-    "= 36" ∷
-    "5 RegPrim c2 g2 w0 p2@2{2,3,4,5,6} a0 v2/1{2,3,4,5,6}{5} y- r[] o[] x{1} b0" ∷
-    "= 37" ∷
-    "6 RegPrim c2 g2 w0 p2@2{2,3,4,5,6} a0 v2/1{2,3,4,5,6}{6} y- r[] o[] x{1} b0" ∷
-    "= 38" ∷
-    "1 Left t2 g2 w0 p1@1{1,2,3,4,5,6} a0 v- y![] r[] o[] x{1} b0" ∷
-    "2 TransPrim t2 g2 w0 p2@2{2,3,4,5,6} a0 v2/1{2,3,4,5,6}{2} y- r[] o[] x{1} b0" ∷
-    "3 TransPrim t2 g2 w0 p2@2{2,3,4,5,6} a0 v2/1{2,3,4,5,6}{3} y- r[] o[] x{1} b0" ∷
-    "4 TransPrim t2 g2 w0 p2@2{2,3,4,5,6} a0 v2/1{2,3,4,5,6}{4} y- r[] o[] x{1} b0" ∷
-    "6 TransPrim t2 g2 w0 p2@2{2,3,4,5,6} a0 v2/1{2,3,4,5,6}{6} y- r[] o[] x{1} b0" ∷
-    "= 39" ∷
-    "2 ExchangeStates c3 g2 w0 p2@2{2,3,4,5,6} a0 v- y![] r[] o[] x{1} b0" ∷
-    "3 ExchangeStates c3 g2 w0 p2@2{2,3,4,5,6} a0 v- y![] r[] o[] x{1} b0" ∷
-    "4 ExchangeStates c3 g2 w0 p2@2{2,3,4,5,6} a0 v- y![] r[] o[] x{1} b0" ∷
-    "6 ExchangeStates c3 g2 w0 p2@2{2,3,4,5,6} a0 v- y![] r[] o[] x{1} b0" ∷
-    "end 39" ∷
-    [])
-unfolding cases_compute
-merge_without_a_member_that_left_c = refl
-
--- Replicas at the start: 1: no primary is formed.
-one_replica_no_primary_a :
-    replayed_text (
-    "start 1" ∷
-    "merge 1" ∷
-    "rounds 1" ∷
-    "end" ∷
-    [])
-    ≡ written (
-    "= 1" ∷
-    "1 NonPrim - g0 w0 p0@0{1} a0 v- y- r[] o[] x{} b0" ∷
-    "= 2" ∷
-    "1 ExchangeStates c1 g0 w0 p0@0{1} a0 v- y- r[] o[] x{} b0" ∷
-    "= 4" ∷
-    "1 Construct c1 g0 w0 p0@0{1} a1 v1/0{1}{1} y- r[] o[] x{} b0" ∷
-    "end 4" ∷
-    [])
-unfolding cases_compute
-one_replica_no_primary_a = refl
-
--- Replicas at the start: 1: a primary is formed.
-one_replica_primary_formed_a :
-    replayed_text (
-    "start 1" ∷
-    "merge 1" ∷
-    "rounds 3" ∷
-    "end" ∷
-    [])
-    ≡ written (
-    "= 1" ∷
-    "1 NonPrim - g0 w0 p0@0{1} a0 v- y- r[] o[] x{} b0" ∷
-    "= 2" ∷
-    "1 ExchangeStates c1 g0 w0 p0@0{1} a0 v- y- r[] o[] x{} b0" ∷
-    "= 4" ∷
-    "1 Construct c1 g0 w0 p0@0{1} a1 v1/0{1}{1} y- r[] o[] x{} b0" ∷
-    "= 6" ∷
-    "1 RegPrim c1 g0 w0 p1@1{1} a0 v1/0{1}{1} y- r[] o[] x{} b0" ∷
-    "end 7" ∷
-    [])
-unfolding cases_compute
-one_replica_primary_formed_a = refl
-
--- Replicas at the start: 1: a primary is formed.
-one_replica_primary_formed_b :
-    replayed_text (
-    "start 1" ∷
-    "merge 1" ∷
-    "order 1" ∷
-    "gather" ∷
-    "gather" ∷
-    "split 1" ∷
-    "merge 1" ∷
-    "split 1" ∷
-    "merge 1" ∷
-    "rounds 3" ∷
-    "request 1 cas \"y\" absent 80 ? keys \"\"" ∷
-    "end" ∷
-    [])
-    ≡ written (
-    "= 1" ∷
-    "1 NonPrim - g0 w0 p0@0{1} a0 v- y- r[] o[] x{} b0" ∷
-    "= 2" ∷
-    "1 ExchangeStates c1 g0 w0 p0@0{1} a0 v- y- r[] o[] x{} b0" ∷
-    "= 6" ∷
-    "1 NonPrim t1 g0 w0 p0@0{1} a0 v- y- r[] o[] x{} b0" ∷
-    "= 7" ∷
-    "1 ExchangeStates c2 g0 w0 p0@0{1} a0 v- y- r[] o[] x{} b0" ∷
-    "= 8" ∷
-    "1 NonPrim t2 g0 w0 p0@0{1} a0 v- y- r[] o[] x{} b0" ∷
-    "= 9" ∷
-    "1 ExchangeStates c3 g0 w0 p0@0{1} a0 v- y- r[] o[] x{} b0" ∷
-    "= 11" ∷
-    "1 Construct c3 g0 w0 p0@0{1} a1 v3/0{1}{1} y- r[] o[] x{} b0" ∷
-    "= 13" ∷
-    "1 RegPrim c3 g0 w0 p1@3{1} a0 v3/0{1}{1} y- r[] o[] x{} b0" ∷
-    "= 15" ∷
-    "made 1:1 cas \"y\" absent 80 ? keys \"\"" ∷
-    "1 RegPrim c3 g0 w0 p1@3{1} a0 v3/0{1}{1} y- r[] o[1:1] x{} b0" ∷
-    "end 15" ∷
-    [])
-unfolding cases_compute
-one_replica_primary_formed_b = refl
-
--- Replicas at the start: 1: a primary is formed; the last event is refused.
-one_replica_primary_formed_refused_a :
-    replayed_text (
-    "start 1" ∷
-    "merge 1" ∷
-    "gather" ∷
-    "request 1 inc \"y\" 1; put \"b\" 56" ∷
-    "deliver 1 1" ∷
-    "request 1 put \"z\" 91; put \"b\" 5" ∷
-    "request 1 put \"abc\" 29 ? get \"x\"" ∷
-    "order 1" ∷
-    "deliver 1 1" ∷
-    "request 1 inc \"z\" -3 ? keys \"k\"" ∷
-    "gather" ∷
-    "merge 15" ∷
-    "end" ∷
-    [])
-    ≡ written (
-    "= 1" ∷
-    "1 NonPrim - g0 w0 p0@0{1} a0 v- y- r[] o[] x{} b0" ∷
-    "= 2" ∷
-    "1 ExchangeStates c1 g0 w0 p0@0{1} a0 v- y- r[] o[] x{} b0" ∷
-    "= 4" ∷
-    "1 ExchangeStates c1 g0 w0 p0@0{1} a0 v- y- r[] o[] x{} b1" ∷
-    "= 5" ∷
-    "1 Construct c1 g0 w0 p0@0{1} a1 v1/0{1}{1} y- r[] o[] x{} b1" ∷
-    "= 6" ∷
-    "1 Construct c1 g0 w0 p0@0{1} a1 v1/0{1}{1} y- r[] o[] x{} b2" ∷
-    "= 7" ∷
-    "1 Construct c1 g0 w0 p0@0{1} a1 v1/0{1}{1} y- r[] o[] x{} b3" ∷
-    "= 9" ∷
-    "made 1:1 inc \"y\" 1; put \"b\" 56" ∷
-    "made 1:2 put \"z\" 91; put \"b\" 5" ∷
-    "made 1:3 put \"abc\" 29 ? get \"x\"" ∷
-    "1 RegPrim c1 g0 w0 p1@1{1} a0 v1/0{1}{1} y- r[] o[1:1,1:2,1:3] x{} b0" ∷
-    "= 10" ∷
-    "made 1:4 inc \"z\" -3 ? keys \"k\"" ∷
-    "1 RegPrim c1 g0 w0 p1@1{1} a0 v1/0{1}{1} y- r[] o[1:1,1:2,1:3,1:4] x{} b0" ∷
-    "refused 12 11 15" ∷
-    [])
-unfolding cases_compute
-one_replica_primary_formed_refused_a = refl
-
--- Replicas at the start: 1: a primary is lost in a partition, and after a merge red actions are ordered; a replica crashes.
-one_replica_primary_lost_and_reds_ordered_crash_a_from_discarding :
-    replayed_text (
-    "start 1" ∷
-    "merge 1" ∷
-    "request 1 cas \"z\" absent 13; put \"b\" 87; put \"abc\" -1" ∷
-    "request 1 put \"y\" 52; put \"x\" \"absent\" ? get \"y\"" ∷
-    "gather" ∷
-    "deliver 1 1" ∷
-    "split 1" ∷
-    "merge 1" ∷
-    "split 1" ∷
-    "merge 1" ∷
-    "rounds 4" ∷
-    "request 1 inc \"y\" 9" ∷
-    "split 1" ∷
-    "merge 1" ∷
-    "request 1 put \"z\" \"12\"" ∷
-    "request 1 move \"b\" \"y\" 5; inc \"y\" 10; put \"z\" 76; put \"z\" 83" ∷
-    "request 1 need \"k2\" 94" ∷
+    "request 1 put \"x\" 1" ∷
+    "request 2 put \"y\" 2" ∷
     "rounds 1" ∷
     "split 1" ∷
+    "split 2 3" ∷
     "merge 1" ∷
+    "merge 2 3" ∷
+    "rounds 2" ∷
+    "request 1 inc \"x\" 5" ∷
+    "rounds 1" ∷
+    "request 1 put \"own\" \"o\"" ∷
     "stop 1 0 -" ∷
+    "downgrade 1" ∷
+    "recover 1 16 4347525549545900" ∷
+    "recover 1 6 -" ∷
+    "recover 1 9 00" ∷
     "recover 1" ∷
-    "merge 1" ∷
-    "rounds 4" ∷
-    "rounds 1" ∷
-    "request 1 ? count" ∷
-    "split 1" ∷
-    "merge 1" ∷
-    "rounds 3" ∷
-    "rounds 1" ∷
-    "rounds 1" ∷
-    "rounds 2" ∷
-    "gather" ∷
-    "gather" ∷
-    "gather" ∷
-    "request 1 inc \"x\" 10 ? get \"y\"" ∷
-    "gather" ∷
-    "deliver 1 1" ∷
-    "split 1" ∷
-    "merge 1" ∷
-    "gather" ∷
     "end" ∷
     [])
     ≡ written (
     "= 1" ∷
-    "1 NonPrim - g0 w0 p0@0{1} a0 v- y- r[] o[] x{} b0" ∷
+    "1 NonPrim - g0 w0 p0@0{1,2,3} a0 v- y- r[] o[] x{} b0" ∷
+    "2 NonPrim - g0 w0 p0@0{1,2,3} a0 v- y- r[] o[] x{} b0" ∷
+    "3 NonPrim - g0 w0 p0@0{1,2,3} a0 v- y- r[] o[] x{} b0" ∷
     "= 2" ∷
-    "1 ExchangeStates c1 g0 w0 p0@0{1} a0 v- y- r[] o[] x{} b0" ∷
-    "= 3" ∷
-    "1 ExchangeStates c1 g0 w0 p0@0{1} a0 v- y- r[] o[] x{} b1" ∷
+    "1 ExchangeStates c1 g0 w0 p0@0{1,2,3} a0 v- y- r[] o[] x{} b0" ∷
+    "2 ExchangeStates c1 g0 w0 p0@0{1,2,3} a0 v- y- r[] o[] x{} b0" ∷
+    "3 ExchangeStates c1 g0 w0 p0@0{1,2,3} a0 v- y- r[] o[] x{} b0" ∷
     "= 4" ∷
-    "1 ExchangeStates c1 g0 w0 p0@0{1} a0 v- y- r[] o[] x{} b2" ∷
-    "= 6" ∷
-    "1 Construct c1 g0 w0 p0@0{1} a1 v1/0{1}{1} y- r[] o[] x{} b2" ∷
-    "= 7" ∷
-    "1 No t1 g0 w0 p0@0{1} a1 v1/0{1}{1} y- r[] o[] x{} b2" ∷
-    "= 8" ∷
-    "1 ExchangeStates c2 g0 w0 p0@0{1} a1 v- y- r[] o[] x{} b2" ∷
-    "= 9" ∷
-    "1 NonPrim t2 g0 w0 p0@0{1} a1 v- y- r[] o[] x{} b2" ∷
-    "= 10" ∷
-    "1 ExchangeStates c3 g0 w0 p0@0{1} a1 v- y- r[] o[] x{} b2" ∷
-    "= 12" ∷
-    "1 Construct c3 g0 w0 p0@0{1} a2 v3/0{1}{1} y- r[] o[] x{} b2" ∷
-    "= 14" ∷
-    "made 1:1 cas \"z\" absent 13; put \"b\" 87; put \"abc\" -1" ∷
-    "made 1:2 put \"y\" 52; put \"x\" \"absent\" ? get \"y\"" ∷
-    "1 RegPrim c3 g0 w0 p1@3{1} a0 v3/0{1}{1} y- r[] o[1:1,1:2] x{} b0" ∷
-    "= 16" ∷
-    "order 1 1:1" ∷
-    "order 2 1:2" ∷
-    "1 RegPrim c3 g2 w0 p1@3{1} a0 v3/0{1}{1} y- r[] o[] x{} b0" ∷
-    "reply 1:1 done" ∷
-    "reply 1:2 done ? 52" ∷
-    "= 18" ∷
-    "made 1:3 inc \"y\" 9" ∷
-    "1 RegPrim c3 g2 w0 p1@3{1} a0 v3/0{1}{1} y- r[] o[1:3] x{} b0" ∷
-    "= 19" ∷
-    "1 TransPrim t3 g2 w0 p1@3{1} a0 v3/0{1}{1} y- r[] o[1:3] x{} b0" ∷
-    "= 20" ∷
-    "1 ExchangeStates c4 g2 w0 p1@3{1} a0 v- y![] r[1:3] o[] x{} b0" ∷
-    "= 21" ∷
-    "1 ExchangeStates c4 g2 w0 p1@3{1} a0 v- y![] r[1:3] o[] x{} b1" ∷
-    "= 22" ∷
-    "1 ExchangeStates c4 g2 w0 p1@3{1} a0 v- y![] r[1:3] o[] x{} b2" ∷
-    "= 23" ∷
-    "1 ExchangeStates c4 g2 w0 p1@3{1} a0 v- y![] r[1:3] o[] x{} b3" ∷
-    "= 25" ∷
-    "1 Construct c4 g2 w0 p1@3{1} a1 v4/1{1}{1} y![] r[1:3] o[] x{} b3" ∷
-    "= 26" ∷
-    "1 No t4 g2 w0 p1@3{1} a1 v4/1{1}{1} y![] r[1:3] o[] x{} b3" ∷
-    "= 27" ∷
-    "1 ExchangeStates c5 g2 w0 p1@3{1} a1 v- y![] r[1:3] o[] x{} b3" ∷
-    "= 28" ∷
-    "1 Down" ∷
-    "= 29" ∷
-    "1 NonPrim - g2 w0 p1@3{1} a1 v- y![] r[1:3] o[] x{} b0" ∷
-    "= 30" ∷
-    "1 ExchangeStates c6 g2 w0 p1@3{1} a1 v- y![] r[1:3] o[] x{} b0" ∷
-    "= 32" ∷
-    "1 Construct c6 g2 w0 p1@3{1} a2 v6/1{1}{1} y![] r[1:3] o[] x{} b0" ∷
-    "= 34" ∷
-    "order 3 1:3" ∷
-    "1 RegPrim c6 g3 w2 p2@6{1} a0 v6/1{1}{1} y- r[] o[] x{} b0" ∷
-    "= 38" ∷
-    "made 1:4 ? count" ∷
-    "1 RegPrim c6 g3 w2 p2@6{1} a0 v6/1{1}{1} y- r[] o[1:4] x{} b0" ∷
-    "= 39" ∷
-    "1 TransPrim t6 g3 w2 p2@6{1} a0 v6/1{1}{1} y- r[] o[1:4] x{} b0" ∷
-    "= 40" ∷
-    "1 ExchangeStates c7 g3 w2 p2@6{1} a0 v- y![] r[1:4] o[] x{} b0" ∷
-    "= 42" ∷
-    "1 Construct c7 g3 w2 p2@6{1} a1 v7/2{1}{1} y![] r[1:4] o[] x{} b0" ∷
-    "= 44" ∷
-    "order 4 1:4" ∷
-    "1 RegPrim c7 g4 w3 p3@7{1} a0 v7/2{1}{1} y- r[] o[] x{} b0" ∷
-    "reply 1:4 done ? count 5" ∷
-    "= 53" ∷
-    "made 1:5 inc \"x\" 10 ? get \"y\"" ∷
-    "1 RegPrim c7 g4 w3 p3@7{1} a0 v7/2{1}{1} y- r[] o[1:5] x{} b0" ∷
-    "= 55" ∷
-    "order 5 1:5" ∷
-    "1 RegPrim c7 g5 w4 p3@7{1} a0 v7/2{1}{1} y- r[] o[] x{} b0" ∷
-    "reply 1:5 aborted 1 ? 61" ∷
-    "= 56" ∷
-    "1 TransPrim t7 g5 w4 p3@7{1} a0 v7/2{1}{1} y- r[] o[] x{} b0" ∷
-    "= 57" ∷
-    "1 ExchangeStates c8 g5 w4 p3@7{1} a0 v- y![] r[] o[] x{} b0" ∷
-    "end 58" ∷
-    [])
-unfolding cases_compute
-one_replica_primary_lost_and_reds_ordered_crash_a_from_discarding = refl
-
--- Replicas at the start: 1: a primary is lost in a partition, and after a merge red actions are ordered; a replica crashes.
-one_replica_primary_lost_and_reds_ordered_crash_b :
-    replayed_text (
-    "start 1" ∷
-    "merge 1" ∷
-    "gather" ∷
-    "split 1" ∷
-    "merge 1" ∷
-    "request 1 put \"x\" 48" ∷
-    "order 1" ∷
-    "request 1 inc \"y\" 0 ? keys \"x\"" ∷
-    "request 1 move \"x\" \"z\" 9223372036854775807 ? get \"b\"" ∷
-    "deliver 1 1" ∷
-    "rounds 2" ∷
-    "gather" ∷
-    "request 1 move \"y\" \"z\" 5; inc \"z\" 0; put \"x\" 49; put \"x\" 40; put \"x\" 9223372036854775806; cas \"x\" -6 -9223372036854775808; put \"b\" 36; need \"b\" 15; inc \"y\" 12; need \"a\" \"\"; put \"y\" 21; put \"abc\" 58; cas \"y\" absent 48; inc \"z\" 0; inc \"ab\" 7; need \"z\" \"v\" ? get \"x\"" ∷
-    "request 1 put \"a\" \"\"" ∷
-    "split 1" ∷
-    "merge 1" ∷
-    "request 1 inc \"ab\" 3; put \"k1\" \"-1\"; cas \"ab\" 99 11; cas \"z\" absent 46" ∷
-    "request 1 put \"y\" 54 ? get \"x\"" ∷
-    "request 1 inc \"x\" 3" ∷
-    "request 1 inc \"a\" 8 ? get \"x\"" ∷
-    "gather" ∷
-    "deliver 1 1" ∷
-    "split 1" ∷
-    "merge 1" ∷
-    "join 1 2" ∷
-    "stop 1 0 01" ∷
-    "gather" ∷
-    "recover 1" ∷
-    "merge 1" ∷
-    "request 1 put \"ab\" 5" ∷
-    "gather" ∷
-    "deliver 1 1" ∷
-    "request 1 cas \"y\" 10 93 ? keys \"k\"" ∷
-    "gather" ∷
-    "deliver 1 1" ∷
-    "split 1" ∷
-    "rounds 1" ∷
-    "merge 1" ∷
-    "join 1 3" ∷
-    "gather" ∷
-    "request 1 ? count" ∷
-    "request 1 cas \"z\" -1 9223372036854775807 ? count" ∷
-    "gather" ∷
-    "deliver 1 1" ∷
-    "split 1" ∷
-    "merge 1" ∷
-    "gather" ∷
-    "end" ∷
-    [])
-    ≡ written (
-    "= 1" ∷
-    "1 NonPrim - g0 w0 p0@0{1} a0 v- y- r[] o[] x{} b0" ∷
-    "= 2" ∷
-    "1 ExchangeStates c1 g0 w0 p0@0{1} a0 v- y- r[] o[] x{} b0" ∷
-    "= 4" ∷
-    "1 NonPrim t1 g0 w0 p0@0{1} a0 v- y- r[] o[] x{} b0" ∷
+    "1 Construct c1 g0 w0 p0@0{1,2,3} a1 v1/0{1,2,3}{1} y- r[] o[] x{} b0" ∷
     "= 5" ∷
-    "1 ExchangeStates c2 g0 w0 p0@0{1} a0 v- y- r[] o[] x{} b0" ∷
+    "2 Construct c1 g0 w0 p0@0{1,2,3} a1 v1/0{1,2,3}{2} y- r[] o[] x{} b0" ∷
     "= 6" ∷
-    "1 ExchangeStates c2 g0 w0 p0@0{1} a0 v- y- r[] o[] x{} b1" ∷
+    "3 Construct c1 g0 w0 p0@0{1,2,3} a1 v1/0{1,2,3}{3} y- r[] o[] x{} b0" ∷
     "= 8" ∷
-    "1 ExchangeStates c2 g0 w0 p0@0{1} a0 v- y- r[] o[] x{} b2" ∷
+    "1 RegPrim c1 g0 w0 p1@1{1,2,3} a0 v1/0{1,2,3}{1} y- r[] o[] x{} b0" ∷
     "= 9" ∷
-    "1 ExchangeStates c2 g0 w0 p0@0{1} a0 v- y- r[] o[] x{} b3" ∷
+    "2 RegPrim c1 g0 w0 p1@1{1,2,3} a0 v1/0{1,2,3}{2} y- r[] o[] x{} b0" ∷
     "= 10" ∷
-    "1 Construct c2 g0 w0 p0@0{1} a1 v2/0{1}{1} y- r[] o[] x{} b3" ∷
+    "3 RegPrim c1 g0 w0 p1@1{1,2,3} a0 v1/0{1,2,3}{3} y- r[] o[] x{} b0" ∷
+    "= 11" ∷
+    "made 1:1 put \"x\" 1" ∷
+    "1 RegPrim c1 g0 w0 p1@1{1,2,3} a0 v1/0{1,2,3}{1} y- r[] o[1:1] x{} b0" ∷
     "= 12" ∷
-    "made 1:1 put \"x\" 48" ∷
-    "made 1:2 inc \"y\" 0 ? keys \"x\"" ∷
-    "made 1:3 move \"x\" \"z\" 9223372036854775807 ? get \"b\"" ∷
-    "1 RegPrim c2 g0 w0 p1@2{1} a0 v2/0{1}{1} y- r[] o[1:1,1:2,1:3] x{} b0" ∷
+    "made 2:1 put \"y\" 2" ∷
+    "2 RegPrim c1 g0 w0 p1@1{1,2,3} a0 v1/0{1,2,3}{2} y- r[] o[2:1] x{} b0" ∷
     "= 14" ∷
     "order 1 1:1" ∷
-    "order 2 1:2" ∷
-    "order 3 1:3" ∷
-    "1 RegPrim c2 g3 w0 p1@2{1} a0 v2/0{1}{1} y- r[] o[] x{} b0" ∷
+    "order 2 2:1" ∷
+    "1 RegPrim c1 g2 w0 p1@1{1,2,3} a0 v1/0{1,2,3}{1} y- r[] o[] x{} b0" ∷
     "reply 1:1 done" ∷
-    "reply 1:2 done ? keys \"x\"" ∷
-    "reply 1:3 aborted 1 ? absent" ∷
+    "= 15" ∷
+    "2 RegPrim c1 g2 w0 p1@1{1,2,3} a0 v1/0{1,2,3}{2} y- r[] o[] x{} b0" ∷
+    "reply 2:1 done" ∷
     "= 16" ∷
-    "made 1:4 move \"y\" \"z\" 5; inc \"z\" 0; put \"x\" 49; put \"x\" 40; put \"x\" 9223372036854775806; cas \"x\" -6 -9223372036854775808; put \"b\" 36; need \"b\" 15; inc \"y\" 12; need \"a\" \"\"; put \"y\" 21; put \"abc\" 58; cas \"y\" absent 48; inc \"z\" 0; inc \"ab\" 7; need \"z\" \"v\" ? get \"x\"" ∷
-    "1 RegPrim c2 g3 w0 p1@2{1} a0 v2/0{1}{1} y- r[] o[1:4] x{} b0" ∷
+    "3 RegPrim c1 g2 w0 p1@1{1,2,3} a0 v1/0{1,2,3}{3} y- r[] o[] x{} b0" ∷
     "= 17" ∷
-    "made 1:5 put \"a\" \"\"" ∷
-    "1 RegPrim c2 g3 w0 p1@2{1} a0 v2/0{1}{1} y- r[] o[1:4,1:5] x{} b0" ∷
+    "1 TransPrim t1 g2 w0 p1@1{1,2,3} a0 v1/0{1,2,3}{1} y- r[] o[] x{} b0" ∷
     "= 18" ∷
-    "1 TransPrim t2 g3 w0 p1@2{1} a0 v2/0{1}{1} y- r[] o[1:4,1:5] x{} b0" ∷
+    "2 TransPrim t1 g2 w0 p1@1{1,2,3} a0 v1/0{1,2,3}{2} y- r[] o[] x{} b0" ∷
+    "3 TransPrim t1 g2 w0 p1@1{1,2,3} a0 v1/0{1,2,3}{3} y- r[] o[] x{} b0" ∷
     "= 19" ∷
-    "1 ExchangeStates c3 g3 w0 p1@2{1} a0 v- y![] r[1:4,1:5] o[] x{} b0" ∷
+    "1 ExchangeStates c2 g2 w0 p1@1{1,2,3} a0 v- y![] r[] o[] x{} b0" ∷
     "= 20" ∷
-    "1 ExchangeStates c3 g3 w0 p1@2{1} a0 v- y![] r[1:4,1:5] o[] x{} b1" ∷
-    "= 21" ∷
-    "1 ExchangeStates c3 g3 w0 p1@2{1} a0 v- y![] r[1:4,1:5] o[] x{} b2" ∷
+    "2 ExchangeStates c3 g2 w0 p1@1{1,2,3} a0 v- y![] r[] o[] x{} b0" ∷
+    "3 ExchangeStates c3 g2 w0 p1@1{1,2,3} a0 v- y![] r[] o[] x{} b0" ∷
     "= 22" ∷
-    "1 ExchangeStates c3 g3 w0 p1@2{1} a0 v- y![] r[1:4,1:5] o[] x{} b3" ∷
+    "1 NonPrim c2 g2 w0 p1@1{1,2,3} a0 v- y![] r[] o[] x{} b0" ∷
     "= 23" ∷
-    "1 ExchangeStates c3 g3 w0 p1@2{1} a0 v- y![] r[1:4,1:5] o[] x{} b4" ∷
-    "= 25" ∷
-    "1 Construct c3 g3 w0 p1@2{1} a1 v3/1{1}{1} y![] r[1:4,1:5] o[] x{} b4" ∷
+    "2 Construct c3 g2 w0 p1@1{1,2,3} a1 v3/1{2,3}{2} y![] r[] o[] x{} b0" ∷
+    "= 24" ∷
+    "3 Construct c3 g2 w0 p1@1{1,2,3} a1 v3/1{2,3}{3} y![] r[] o[] x{} b0" ∷
     "= 26" ∷
-    "1 No t3 g3 w0 p1@2{1} a1 v3/1{1}{1} y![] r[1:4,1:5] o[] x{} b4" ∷
+    "2 RegPrim c3 g2 w0 p2@3{2,3} a0 v3/1{2,3}{2} y- r[] o[] x{} b0" ∷
     "= 27" ∷
-    "1 ExchangeStates c4 g3 w0 p1@2{1} a1 v- y![] r[1:4,1:5] o[] x{} b4" ∷
+    "3 RegPrim c3 g2 w0 p2@3{2,3} a0 v3/1{2,3}{3} y- r[] o[] x{} b0" ∷
     "= 28" ∷
-    "1 ExchangeStates c4 g3 w0 p1@2{1} a1 v- y![] r[1:4,1:5] o[] x{} b5" ∷
-    "= 29" ∷
-    "1 Down" ∷
+    "made 1:2 inc \"x\" 5" ∷
+    "1 NonPrim c2 g2 w0 p1@1{1,2,3} a0 v- y![] r[] o[1:2] x{} b0" ∷
+    "= 30" ∷
+    "1 NonPrim c2 g2 w0 p1@1{1,2,3} a0 v- y![] r[1:2] o[] x{} b0" ∷
     "= 31" ∷
-    "1 NonPrim - g3 w0 p1@2{1} a1 v- y![] r[1:4,1:5] o[] x{} b0" ∷
+    "made 1:3 put \"own\" \"o\"" ∷
+    "1 NonPrim c2 g2 w0 p1@1{1,2,3} a0 v- y![] r[1:2] o[1:3] x{} b0" ∷
     "= 32" ∷
-    "1 ExchangeStates c5 g3 w0 p1@2{1} a1 v- y![] r[1:4,1:5] o[] x{} b0" ∷
-    "= 33" ∷
-    "1 ExchangeStates c5 g3 w0 p1@2{1} a1 v- y![] r[1:4,1:5] o[] x{} b1" ∷
-    "= 35" ∷
-    "1 Construct c5 g3 w0 p1@2{1} a2 v5/1{1}{1} y![] r[1:4,1:5] o[] x{} b1" ∷
-    "= 36" ∷
-    "1 Construct c5 g3 w0 p1@2{1} a2 v5/1{1}{1} y![] r[1:4,1:5] o[] x{} b2" ∷
-    "= 38" ∷
-    "made 1:6 put \"ab\" 5" ∷
-    "made 1:7 cas \"y\" 10 93 ? keys \"k\"" ∷
-    "order 4 1:4" ∷
-    "order 5 1:5" ∷
-    "1 RegPrim c5 g5 w3 p2@5{1} a0 v5/1{1}{1} y- r[] o[1:6,1:7] x{} b0" ∷
-    "= 39" ∷
-    "1 TransPrim t5 g5 w3 p2@5{1} a0 v5/1{1}{1} y- r[] o[1:6,1:7] x{} b0" ∷
-    "= 41" ∷
-    "1 ExchangeStates c6 g5 w3 p2@5{1} a0 v- y![] r[1:6,1:7] o[] x{} b0" ∷
-    "= 42" ∷
-    "1 ExchangeStates c6 g5 w3 p2@5{1} a0 v- y![] r[1:6,1:7] o[] x{} b1" ∷
-    "= 44" ∷
-    "1 ExchangeStates c6 g5 w3 p2@5{1} a0 v- y![] r[1:6,1:7] o[] x{} b2" ∷
-    "= 45" ∷
-    "1 ExchangeStates c6 g5 w3 p2@5{1} a0 v- y![] r[1:6,1:7] o[] x{} b3" ∷
-    "= 47" ∷
-    "1 Construct c6 g5 w3 p2@5{1} a1 v6/2{1}{1} y![] r[1:6,1:7] o[] x{} b3" ∷
-    "= 48" ∷
-    "1 No t6 g5 w3 p2@5{1} a1 v6/2{1}{1} y![] r[1:6,1:7] o[] x{} b3" ∷
-    "= 49" ∷
-    "1 ExchangeStates c7 g5 w3 p2@5{1} a1 v- y![] r[1:6,1:7] o[] x{} b3" ∷
-    "end 50" ∷
+    "1 Down" ∷
+    "= 37" ∷
+    "1 NonPrim - g2 w0 p1@1{1,2,3} a0 v- y![] r[1:2,1:3] o[] x{} b0" ∷
+    "end 37" ∷
     [])
 unfolding cases_compute
-one_replica_primary_lost_and_reds_ordered_crash_b = refl
+header_torn_inside_call_16_with_4347525549545900 = refl
 
--- Replicas at the start: 1: a primary is lost in a partition, and after a merge red actions are ordered; a crash strikes inside a device call.
-one_replica_primary_lost_and_reds_ordered_crash_in_a_device_call_a_from_discarding :
+-- The input is cut after 12 of its 107 bytes.
+input_cut_after_012_bytes :
     replayed_text (
-    "start 1" ∷
-    "merge 1" ∷
-    "rounds 3" ∷
-    "split 1" ∷
-    "merge 1" ∷
-    "request 1 need \"ab\" absent" ∷
+    "start 1 2 3" ∷
+    [])
+    ≡ written (
+    "= 1" ∷
+    "1 NonPrim - g0 w0 p0@0{1,2,3} a0 v- y- r[] o[] x{} b0" ∷
+    "2 NonPrim - g0 w0 p0@0{1,2,3} a0 v- y- r[] o[] x{} b0" ∷
+    "3 NonPrim - g0 w0 p0@0{1,2,3} a0 v- y- r[] o[] x{} b0" ∷
+    "no end 1" ∷
+    [])
+unfolding cases_compute
+input_cut_after_012_bytes = refl
+
+-- The input is cut after 24 of its 107 bytes.
+input_cut_after_024_bytes :
+    replayed_text (
+    "start 1 2 3" ∷
+    "merge 1 2 3" ∷
+    [])
+    ≡ written (
+    "= 1" ∷
+    "1 NonPrim - g0 w0 p0@0{1,2,3} a0 v- y- r[] o[] x{} b0" ∷
+    "2 NonPrim - g0 w0 p0@0{1,2,3} a0 v- y- r[] o[] x{} b0" ∷
+    "3 NonPrim - g0 w0 p0@0{1,2,3} a0 v- y- r[] o[] x{} b0" ∷
+    "= 2" ∷
+    "1 ExchangeStates c1 g0 w0 p0@0{1,2,3} a0 v- y- r[] o[] x{} b0" ∷
+    "2 ExchangeStates c1 g0 w0 p0@0{1,2,3} a0 v- y- r[] o[] x{} b0" ∷
+    "3 ExchangeStates c1 g0 w0 p0@0{1,2,3} a0 v- y- r[] o[] x{} b0" ∷
+    "no end 2" ∷
+    [])
+unfolding cases_compute
+input_cut_after_024_bytes = refl
+
+-- The input is cut after 33 of its 107 bytes.
+input_cut_after_033_bytes :
+    replayed_text (
+    "start 1 2 3" ∷
+    "merge 1 2 3" ∷
     "rounds 2" ∷
-    "split 1" ∷
-    "merge 1" ∷
-    "split 1" ∷
-    "merge 1" ∷
-    "split 1" ∷
-    "merge 1" ∷
-    "request 1 need \"a\" absent" ∷
-    "stop 1 12 4347525549545931" ∷
-    "gather" ∷
-    "deliver 1 1" ∷
-    "gather" ∷
-    "rounds 3" ∷
-    "recover 1" ∷
-    "merge 1" ∷
-    "gather" ∷
-    "request 1 put \"k2\" 95; inc \"a\" -2; need \"b\" absent; inc \"b\" 4" ∷
-    "deliver 1 1" ∷
-    "split 1" ∷
-    "merge 1" ∷
-    "rounds 3" ∷
-    "split 1" ∷
-    "merge 1" ∷
-    "split 1" ∷
-    "request 1 cas \"ab\" absent 9" ∷
-    "merge 1" ∷
-    "request 1 inc \"ab\" 0; inc \"b\" -9223372036854775808; inc \"y\" -2" ∷
-    "split 1" ∷
-    "merge 1" ∷
-    "request 1 need \"a\" 97; inc \"z\" 3; cas \"x\" absent 2; inc \"z\" 1; inc \"x\" 5; del \"x\"; inc \"ab\" 0; cas \"z\" absent 17; put \"z\" \"; ? #\"; inc \"abc\" 1; put \"ab\" 49; inc \"a\" -3; put \"k1\" -1; del \"a\"; inc \"abc\" -2; inc \"x\" -3" ∷
-    "order 1" ∷
-    "split 1" ∷
-    "merge 1" ∷
-    "split 1" ∷
-    "merge 1" ∷
+    [])
+    ≡ written (
+    "= 1" ∷
+    "1 NonPrim - g0 w0 p0@0{1,2,3} a0 v- y- r[] o[] x{} b0" ∷
+    "2 NonPrim - g0 w0 p0@0{1,2,3} a0 v- y- r[] o[] x{} b0" ∷
+    "3 NonPrim - g0 w0 p0@0{1,2,3} a0 v- y- r[] o[] x{} b0" ∷
+    "= 2" ∷
+    "1 ExchangeStates c1 g0 w0 p0@0{1,2,3} a0 v- y- r[] o[] x{} b0" ∷
+    "2 ExchangeStates c1 g0 w0 p0@0{1,2,3} a0 v- y- r[] o[] x{} b0" ∷
+    "3 ExchangeStates c1 g0 w0 p0@0{1,2,3} a0 v- y- r[] o[] x{} b0" ∷
+    "= 4" ∷
+    "1 Construct c1 g0 w0 p0@0{1,2,3} a1 v1/0{1,2,3}{1} y- r[] o[] x{} b0" ∷
+    "= 5" ∷
+    "2 Construct c1 g0 w0 p0@0{1,2,3} a1 v1/0{1,2,3}{2} y- r[] o[] x{} b0" ∷
+    "= 6" ∷
+    "3 Construct c1 g0 w0 p0@0{1,2,3} a1 v1/0{1,2,3}{3} y- r[] o[] x{} b0" ∷
+    "= 8" ∷
+    "1 RegPrim c1 g0 w0 p1@1{1,2,3} a0 v1/0{1,2,3}{1} y- r[] o[] x{} b0" ∷
+    "= 9" ∷
+    "2 RegPrim c1 g0 w0 p1@1{1,2,3} a0 v1/0{1,2,3}{2} y- r[] o[] x{} b0" ∷
+    "= 10" ∷
+    "3 RegPrim c1 g0 w0 p1@1{1,2,3} a0 v1/0{1,2,3}{3} y- r[] o[] x{} b0" ∷
+    "no end 3" ∷
+    [])
+unfolding cases_compute
+input_cut_after_033_bytes = refl
+
+-- The input is cut after 53 of its 107 bytes.
+input_cut_after_053_bytes :
+    replayed_text (
+    "start 1 2 3" ∷
+    "merge 1 2 3" ∷
+    "rounds 2" ∷
+    "request 1 put \"x\" 1" ∷
+    [])
+    ≡ written (
+    "= 1" ∷
+    "1 NonPrim - g0 w0 p0@0{1,2,3} a0 v- y- r[] o[] x{} b0" ∷
+    "2 NonPrim - g0 w0 p0@0{1,2,3} a0 v- y- r[] o[] x{} b0" ∷
+    "3 NonPrim - g0 w0 p0@0{1,2,3} a0 v- y- r[] o[] x{} b0" ∷
+    "= 2" ∷
+    "1 ExchangeStates c1 g0 w0 p0@0{1,2,3} a0 v- y- r[] o[] x{} b0" ∷
+    "2 ExchangeStates c1 g0 w0 p0@0{1,2,3} a0 v- y- r[] o[] x{} b0" ∷
+    "3 ExchangeStates c1 g0 w0 p0@0{1,2,3} a0 v- y- r[] o[] x{} b0" ∷
+    "= 4" ∷
+    "1 Construct c1 g0 w0 p0@0{1,2,3} a1 v1/0{1,2,3}{1} y- r[] o[] x{} b0" ∷
+    "= 5" ∷
+    "2 Construct c1 g0 w0 p0@0{1,2,3} a1 v1/0{1,2,3}{2} y- r[] o[] x{} b0" ∷
+    "= 6" ∷
+    "3 Construct c1 g0 w0 p0@0{1,2,3} a1 v1/0{1,2,3}{3} y- r[] o[] x{} b0" ∷
+    "= 8" ∷
+    "1 RegPrim c1 g0 w0 p1@1{1,2,3} a0 v1/0{1,2,3}{1} y- r[] o[] x{} b0" ∷
+    "= 9" ∷
+    "2 RegPrim c1 g0 w0 p1@1{1,2,3} a0 v1/0{1,2,3}{2} y- r[] o[] x{} b0" ∷
+    "= 10" ∷
+    "3 RegPrim c1 g0 w0 p1@1{1,2,3} a0 v1/0{1,2,3}{3} y- r[] o[] x{} b0" ∷
+    "= 11" ∷
+    "made 1:1 put \"x\" 1" ∷
+    "1 RegPrim c1 g0 w0 p1@1{1,2,3} a0 v1/0{1,2,3}{1} y- r[] o[1:1] x{} b0" ∷
+    "no end 4" ∷
+    [])
+unfolding cases_compute
+input_cut_after_053_bytes = refl
+
+-- The input is cut after 83 of its 107 bytes.
+input_cut_after_083_bytes :
+    replayed_text (
+    "start 1 2 3" ∷
+    "merge 1 2 3" ∷
+    "rounds 2" ∷
+    "request 1 put \"x\" 1" ∷
+    "request 2 inc \"x\" 4 ? get \"x\"" ∷
+    [])
+    ≡ written (
+    "= 1" ∷
+    "1 NonPrim - g0 w0 p0@0{1,2,3} a0 v- y- r[] o[] x{} b0" ∷
+    "2 NonPrim - g0 w0 p0@0{1,2,3} a0 v- y- r[] o[] x{} b0" ∷
+    "3 NonPrim - g0 w0 p0@0{1,2,3} a0 v- y- r[] o[] x{} b0" ∷
+    "= 2" ∷
+    "1 ExchangeStates c1 g0 w0 p0@0{1,2,3} a0 v- y- r[] o[] x{} b0" ∷
+    "2 ExchangeStates c1 g0 w0 p0@0{1,2,3} a0 v- y- r[] o[] x{} b0" ∷
+    "3 ExchangeStates c1 g0 w0 p0@0{1,2,3} a0 v- y- r[] o[] x{} b0" ∷
+    "= 4" ∷
+    "1 Construct c1 g0 w0 p0@0{1,2,3} a1 v1/0{1,2,3}{1} y- r[] o[] x{} b0" ∷
+    "= 5" ∷
+    "2 Construct c1 g0 w0 p0@0{1,2,3} a1 v1/0{1,2,3}{2} y- r[] o[] x{} b0" ∷
+    "= 6" ∷
+    "3 Construct c1 g0 w0 p0@0{1,2,3} a1 v1/0{1,2,3}{3} y- r[] o[] x{} b0" ∷
+    "= 8" ∷
+    "1 RegPrim c1 g0 w0 p1@1{1,2,3} a0 v1/0{1,2,3}{1} y- r[] o[] x{} b0" ∷
+    "= 9" ∷
+    "2 RegPrim c1 g0 w0 p1@1{1,2,3} a0 v1/0{1,2,3}{2} y- r[] o[] x{} b0" ∷
+    "= 10" ∷
+    "3 RegPrim c1 g0 w0 p1@1{1,2,3} a0 v1/0{1,2,3}{3} y- r[] o[] x{} b0" ∷
+    "= 11" ∷
+    "made 1:1 put \"x\" 1" ∷
+    "1 RegPrim c1 g0 w0 p1@1{1,2,3} a0 v1/0{1,2,3}{1} y- r[] o[1:1] x{} b0" ∷
+    "= 12" ∷
+    "made 2:1 inc \"x\" 4 ? get \"x\"" ∷
+    "2 RegPrim c1 g0 w0 p1@1{1,2,3} a0 v1/0{1,2,3}{2} y- r[] o[2:1] x{} b0" ∷
+    "no end 5" ∷
+    [])
+unfolding cases_compute
+input_cut_after_083_bytes = refl
+
+-- The input is cut after 92 of its 107 bytes.
+input_cut_after_092_bytes :
+    replayed_text (
+    "start 1 2 3" ∷
+    "merge 1 2 3" ∷
+    "rounds 2" ∷
+    "request 1 put \"x\" 1" ∷
+    "request 2 inc \"x\" 4 ? get \"x\"" ∷
+    "rounds 1" ∷
+    [])
+    ≡ written (
+    "= 1" ∷
+    "1 NonPrim - g0 w0 p0@0{1,2,3} a0 v- y- r[] o[] x{} b0" ∷
+    "2 NonPrim - g0 w0 p0@0{1,2,3} a0 v- y- r[] o[] x{} b0" ∷
+    "3 NonPrim - g0 w0 p0@0{1,2,3} a0 v- y- r[] o[] x{} b0" ∷
+    "= 2" ∷
+    "1 ExchangeStates c1 g0 w0 p0@0{1,2,3} a0 v- y- r[] o[] x{} b0" ∷
+    "2 ExchangeStates c1 g0 w0 p0@0{1,2,3} a0 v- y- r[] o[] x{} b0" ∷
+    "3 ExchangeStates c1 g0 w0 p0@0{1,2,3} a0 v- y- r[] o[] x{} b0" ∷
+    "= 4" ∷
+    "1 Construct c1 g0 w0 p0@0{1,2,3} a1 v1/0{1,2,3}{1} y- r[] o[] x{} b0" ∷
+    "= 5" ∷
+    "2 Construct c1 g0 w0 p0@0{1,2,3} a1 v1/0{1,2,3}{2} y- r[] o[] x{} b0" ∷
+    "= 6" ∷
+    "3 Construct c1 g0 w0 p0@0{1,2,3} a1 v1/0{1,2,3}{3} y- r[] o[] x{} b0" ∷
+    "= 8" ∷
+    "1 RegPrim c1 g0 w0 p1@1{1,2,3} a0 v1/0{1,2,3}{1} y- r[] o[] x{} b0" ∷
+    "= 9" ∷
+    "2 RegPrim c1 g0 w0 p1@1{1,2,3} a0 v1/0{1,2,3}{2} y- r[] o[] x{} b0" ∷
+    "= 10" ∷
+    "3 RegPrim c1 g0 w0 p1@1{1,2,3} a0 v1/0{1,2,3}{3} y- r[] o[] x{} b0" ∷
+    "= 11" ∷
+    "made 1:1 put \"x\" 1" ∷
+    "1 RegPrim c1 g0 w0 p1@1{1,2,3} a0 v1/0{1,2,3}{1} y- r[] o[1:1] x{} b0" ∷
+    "= 12" ∷
+    "made 2:1 inc \"x\" 4 ? get \"x\"" ∷
+    "2 RegPrim c1 g0 w0 p1@1{1,2,3} a0 v1/0{1,2,3}{2} y- r[] o[2:1] x{} b0" ∷
+    "= 14" ∷
+    "order 1 1:1" ∷
+    "order 2 2:1" ∷
+    "1 RegPrim c1 g2 w0 p1@1{1,2,3} a0 v1/0{1,2,3}{1} y- r[] o[] x{} b0" ∷
+    "reply 1:1 done" ∷
+    "= 15" ∷
+    "2 RegPrim c1 g2 w0 p1@1{1,2,3} a0 v1/0{1,2,3}{2} y- r[] o[] x{} b0" ∷
+    "reply 2:1 done ? 5" ∷
+    "= 16" ∷
+    "3 RegPrim c1 g2 w0 p1@1{1,2,3} a0 v1/0{1,2,3}{3} y- r[] o[] x{} b0" ∷
+    "no end 6" ∷
+    [])
+unfolding cases_compute
+input_cut_after_092_bytes = refl
+
+-- The input is cut after 103 of its 107 bytes.
+input_cut_after_103_bytes :
+    replayed_text (
+    "start 1 2 3" ∷
+    "merge 1 2 3" ∷
+    "rounds 2" ∷
+    "request 1 put \"x\" 1" ∷
+    "request 2 inc \"x\" 4 ? get \"x\"" ∷
+    "rounds 1" ∷
+    "show order" ∷
+    [])
+    ≡ written (
+    "= 1" ∷
+    "1 NonPrim - g0 w0 p0@0{1,2,3} a0 v- y- r[] o[] x{} b0" ∷
+    "2 NonPrim - g0 w0 p0@0{1,2,3} a0 v- y- r[] o[] x{} b0" ∷
+    "3 NonPrim - g0 w0 p0@0{1,2,3} a0 v- y- r[] o[] x{} b0" ∷
+    "= 2" ∷
+    "1 ExchangeStates c1 g0 w0 p0@0{1,2,3} a0 v- y- r[] o[] x{} b0" ∷
+    "2 ExchangeStates c1 g0 w0 p0@0{1,2,3} a0 v- y- r[] o[] x{} b0" ∷
+    "3 ExchangeStates c1 g0 w0 p0@0{1,2,3} a0 v- y- r[] o[] x{} b0" ∷
+    "= 4" ∷
+    "1 Construct c1 g0 w0 p0@0{1,2,3} a1 v1/0{1,2,3}{1} y- r[] o[] x{} b0" ∷
+    "= 5" ∷
+    "2 Construct c1 g0 w0 p0@0{1,2,3} a1 v1/0{1,2,3}{2} y- r[] o[] x{} b0" ∷
+    "= 6" ∷
+    "3 Construct c1 g0 w0 p0@0{1,2,3} a1 v1/0{1,2,3}{3} y- r[] o[] x{} b0" ∷
+    "= 8" ∷
+    "1 RegPrim c1 g0 w0 p1@1{1,2,3} a0 v1/0{1,2,3}{1} y- r[] o[] x{} b0" ∷
+    "= 9" ∷
+    "2 RegPrim c1 g0 w0 p1@1{1,2,3} a0 v1/0{1,2,3}{2} y- r[] o[] x{} b0" ∷
+    "= 10" ∷
+    "3 RegPrim c1 g0 w0 p1@1{1,2,3} a0 v1/0{1,2,3}{3} y- r[] o[] x{} b0" ∷
+    "= 11" ∷
+    "made 1:1 put \"x\" 1" ∷
+    "1 RegPrim c1 g0 w0 p1@1{1,2,3} a0 v1/0{1,2,3}{1} y- r[] o[1:1] x{} b0" ∷
+    "= 12" ∷
+    "made 2:1 inc \"x\" 4 ? get \"x\"" ∷
+    "2 RegPrim c1 g0 w0 p1@1{1,2,3} a0 v1/0{1,2,3}{2} y- r[] o[2:1] x{} b0" ∷
+    "= 14" ∷
+    "order 1 1:1" ∷
+    "order 2 2:1" ∷
+    "1 RegPrim c1 g2 w0 p1@1{1,2,3} a0 v1/0{1,2,3}{1} y- r[] o[] x{} b0" ∷
+    "reply 1:1 done" ∷
+    "= 15" ∷
+    "2 RegPrim c1 g2 w0 p1@1{1,2,3} a0 v1/0{1,2,3}{2} y- r[] o[] x{} b0" ∷
+    "reply 2:1 done ? 5" ∷
+    "= 16" ∷
+    "3 RegPrim c1 g2 w0 p1@1{1,2,3} a0 v1/0{1,2,3}{3} y- r[] o[] x{} b0" ∷
+    "= 17" ∷
+    "all [1:1,2:1]" ∷
+    "no end 7" ∷
+    [])
+unfolding cases_compute
+input_cut_after_103_bytes = refl
+
+-- The input is cut after 107 of its 107 bytes.
+input_cut_after_107_bytes :
+    replayed_text (
+    "start 1 2 3" ∷
+    "merge 1 2 3" ∷
+    "rounds 2" ∷
+    "request 1 put \"x\" 1" ∷
+    "request 2 inc \"x\" 4 ? get \"x\"" ∷
+    "rounds 1" ∷
+    "show order" ∷
     "end" ∷
     [])
     ≡ written (
     "= 1" ∷
-    "1 NonPrim - g0 w0 p0@0{1} a0 v- y- r[] o[] x{} b0" ∷
+    "1 NonPrim - g0 w0 p0@0{1,2,3} a0 v- y- r[] o[] x{} b0" ∷
+    "2 NonPrim - g0 w0 p0@0{1,2,3} a0 v- y- r[] o[] x{} b0" ∷
+    "3 NonPrim - g0 w0 p0@0{1,2,3} a0 v- y- r[] o[] x{} b0" ∷
     "= 2" ∷
-    "1 ExchangeStates c1 g0 w0 p0@0{1} a0 v- y- r[] o[] x{} b0" ∷
+    "1 ExchangeStates c1 g0 w0 p0@0{1,2,3} a0 v- y- r[] o[] x{} b0" ∷
+    "2 ExchangeStates c1 g0 w0 p0@0{1,2,3} a0 v- y- r[] o[] x{} b0" ∷
+    "3 ExchangeStates c1 g0 w0 p0@0{1,2,3} a0 v- y- r[] o[] x{} b0" ∷
     "= 4" ∷
-    "1 Construct c1 g0 w0 p0@0{1} a1 v1/0{1}{1} y- r[] o[] x{} b0" ∷
+    "1 Construct c1 g0 w0 p0@0{1,2,3} a1 v1/0{1,2,3}{1} y- r[] o[] x{} b0" ∷
+    "= 5" ∷
+    "2 Construct c1 g0 w0 p0@0{1,2,3} a1 v1/0{1,2,3}{2} y- r[] o[] x{} b0" ∷
     "= 6" ∷
-    "1 RegPrim c1 g0 w0 p1@1{1} a0 v1/0{1}{1} y- r[] o[] x{} b0" ∷
+    "3 Construct c1 g0 w0 p0@0{1,2,3} a1 v1/0{1,2,3}{3} y- r[] o[] x{} b0" ∷
     "= 8" ∷
-    "1 TransPrim t1 g0 w0 p1@1{1} a0 v1/0{1}{1} y- r[] o[] x{} b0" ∷
+    "1 RegPrim c1 g0 w0 p1@1{1,2,3} a0 v1/0{1,2,3}{1} y- r[] o[] x{} b0" ∷
     "= 9" ∷
-    "1 ExchangeStates c2 g0 w0 p1@1{1} a0 v- y![] r[] o[] x{} b0" ∷
+    "2 RegPrim c1 g0 w0 p1@1{1,2,3} a0 v1/0{1,2,3}{2} y- r[] o[] x{} b0" ∷
     "= 10" ∷
-    "1 ExchangeStates c2 g0 w0 p1@1{1} a0 v- y![] r[] o[] x{} b1" ∷
+    "3 RegPrim c1 g0 w0 p1@1{1,2,3} a0 v1/0{1,2,3}{3} y- r[] o[] x{} b0" ∷
+    "= 11" ∷
+    "made 1:1 put \"x\" 1" ∷
+    "1 RegPrim c1 g0 w0 p1@1{1,2,3} a0 v1/0{1,2,3}{1} y- r[] o[1:1] x{} b0" ∷
     "= 12" ∷
-    "1 Construct c2 g0 w0 p1@1{1} a1 v2/1{1}{1} y![] r[] o[] x{} b1" ∷
+    "made 2:1 inc \"x\" 4 ? get \"x\"" ∷
+    "2 RegPrim c1 g0 w0 p1@1{1,2,3} a0 v1/0{1,2,3}{2} y- r[] o[2:1] x{} b0" ∷
     "= 14" ∷
-    "made 1:1 need \"ab\" absent" ∷
-    "1 RegPrim c2 g0 w0 p2@2{1} a0 v2/1{1}{1} y- r[] o[1:1] x{} b0" ∷
-    "= 15" ∷
-    "1 TransPrim t2 g0 w0 p2@2{1} a0 v2/1{1}{1} y- r[] o[1:1] x{} b0" ∷
-    "= 16" ∷
-    "1 ExchangeStates c3 g0 w0 p2@2{1} a0 v- y![] r[1:1] o[] x{} b0" ∷
-    "= 17" ∷
-    "1 NonPrim t3 g0 w0 p2@2{1} a0 v- y![] r[1:1] o[] x{} b0" ∷
-    "= 18" ∷
-    "1 ExchangeStates c4 g0 w0 p2@2{1} a0 v- y![] r[1:1] o[] x{} b0" ∷
-    "= 19" ∷
-    "1 NonPrim t4 g0 w0 p2@2{1} a0 v- y![] r[1:1] o[] x{} b0" ∷
-    "= 20" ∷
-    "1 ExchangeStates c5 g0 w0 p2@2{1} a0 v- y![] r[1:1] o[] x{} b0" ∷
-    "= 21" ∷
-    "1 ExchangeStates c5 g0 w0 p2@2{1} a0 v- y![] r[1:1] o[] x{} b1" ∷
-    "= 24" ∷
-    "1 Construct c5 g0 w0 p2@2{1} a1 v5/2{1}{1} y![] r[1:1] o[] x{} b1" ∷
-    "= 27" ∷
-    "made 1:2 need \"a\" absent" ∷
     "order 1 1:1" ∷
-    "1 RegPrim c5 g1 w0 p3@5{1} a0 v5/2{1}{1} y- r[] o[1:2] x{} b0" ∷
+    "order 2 2:1" ∷
+    "1 RegPrim c1 g2 w0 p1@1{1,2,3} a0 v1/0{1,2,3}{1} y- r[] o[] x{} b0" ∷
     "reply 1:1 done" ∷
-    "= 29" ∷
-    "1 Down" ∷
-    "= 31" ∷
-    "1 NonPrim - g1 w0 p3@5{1} a0 v5/2{1}{1} y- r[1:2] o[] x{} b0" ∷
-    "= 32" ∷
-    "1 ExchangeStates c6 g1 w0 p3@5{1} a0 v5/2{1}{1} y- r[1:2] o[] x{} b0" ∷
-    "= 34" ∷
-    "1 ExchangeStates c6 g1 w0 p3@5{1} a0 v5/2{1}{1} y- r[1:2] o[] x{} b1" ∷
-    "= 35" ∷
-    "1 Construct c6 g1 w0 p3@5{1} a1 v6/3{1}{1} y- r[1:2] o[] x{} b1" ∷
-    "= 36" ∷
-    "1 No t6 g1 w0 p3@5{1} a1 v6/3{1}{1} y- r[1:2] o[] x{} b1" ∷
-    "= 37" ∷
-    "1 ExchangeStates c7 g1 w0 p3@5{1} a1 v- y- r[1:2] o[] x{} b1" ∷
-    "= 39" ∷
-    "1 Construct c7 g1 w0 p3@5{1} a2 v7/3{1}{1} y- r[1:2] o[] x{} b1" ∷
-    "= 41" ∷
-    "made 1:3 put \"k2\" 95; inc \"a\" -2; need \"b\" absent; inc \"b\" 4" ∷
-    "order 2 1:2" ∷
-    "1 RegPrim c7 g2 w1 p4@7{1} a0 v7/3{1}{1} y- r[] o[1:3] x{} b0" ∷
-    "= 43" ∷
-    "order 3 1:3" ∷
-    "1 RegPrim c7 g3 w2 p4@7{1} a0 v7/3{1}{1} y- r[] o[] x{} b0" ∷
-    "reply 1:3 done" ∷
-    "= 44" ∷
-    "1 TransPrim t7 g3 w2 p4@7{1} a0 v7/3{1}{1} y- r[] o[] x{} b0" ∷
-    "= 45" ∷
-    "1 ExchangeStates c8 g3 w2 p4@7{1} a0 v- y![] r[] o[] x{} b0" ∷
-    "= 46" ∷
-    "1 NonPrim t8 g3 w2 p4@7{1} a0 v- y![] r[] o[] x{} b0" ∷
-    "= 47" ∷
-    "1 NonPrim t8 g3 w2 p4@7{1} a0 v- y![] r[] o[] x{} b1" ∷
-    "= 48" ∷
-    "1 ExchangeStates c9 g3 w2 p4@7{1} a0 v- y![] r[] o[] x{} b1" ∷
-    "= 49" ∷
-    "1 ExchangeStates c9 g3 w2 p4@7{1} a0 v- y![] r[] o[] x{} b2" ∷
-    "= 50" ∷
-    "1 NonPrim t9 g3 w2 p4@7{1} a0 v- y![] r[] o[] x{} b2" ∷
-    "= 51" ∷
-    "1 ExchangeStates c10 g3 w2 p4@7{1} a0 v- y![] r[] o[] x{} b2" ∷
-    "= 52" ∷
-    "1 ExchangeStates c10 g3 w2 p4@7{1} a0 v- y![] r[] o[] x{} b3" ∷
-    "= 54" ∷
-    "1 NonPrim t10 g3 w2 p4@7{1} a0 v- y![] r[] o[] x{} b3" ∷
-    "= 55" ∷
-    "1 ExchangeStates c11 g3 w2 p4@7{1} a0 v- y![] r[] o[] x{} b3" ∷
-    "= 56" ∷
-    "1 NonPrim t11 g3 w2 p4@7{1} a0 v- y![] r[] o[] x{} b3" ∷
-    "= 57" ∷
-    "1 ExchangeStates c12 g3 w2 p4@7{1} a0 v- y![] r[] o[] x{} b3" ∷
-    "end 57" ∷
+    "= 15" ∷
+    "2 RegPrim c1 g2 w0 p1@1{1,2,3} a0 v1/0{1,2,3}{2} y- r[] o[] x{} b0" ∷
+    "reply 2:1 done ? 5" ∷
+    "= 16" ∷
+    "3 RegPrim c1 g2 w0 p1@1{1,2,3} a0 v1/0{1,2,3}{3} y- r[] o[] x{} b0" ∷
+    "= 17" ∷
+    "all [1:1,2:1]" ∷
+    "end 17" ∷
     [])
 unfolding cases_compute
-one_replica_primary_lost_and_reds_ordered_crash_in_a_device_call_a_from_discarding = refl
+input_cut_after_107_bytes = refl
+
+-- late installer answers before others
+late_installer_answers_before_others :
+    replayed_text (
+    "start 1 2 3" ∷
+    "merge 1 2 3" ∷
+    "rounds 1" ∷
+    "request 2 put \"q\" 1" ∷
+    "request 1 put \"r\" 2 ? get \"q\"" ∷
+    "gather" ∷
+    "deliver 1 3" ∷
+    "request 1 put \"s\" 3 ? count" ∷
+    "gather" ∷
+    "split 2 3" ∷
+    "split 1" ∷
+    "merge 1 2 3" ∷
+    "rounds 4" ∷
+    "show order" ∷
+    "show 2" ∷
+    "end" ∷
+    [])
+    ≡ written (
+    "= 1" ∷
+    "1 NonPrim - g0 w0 p0@0{1,2,3} a0 v- y- r[] o[] x{} b0" ∷
+    "2 NonPrim - g0 w0 p0@0{1,2,3} a0 v- y- r[] o[] x{} b0" ∷
+    "3 NonPrim - g0 w0 p0@0{1,2,3} a0 v- y- r[] o[] x{} b0" ∷
+    "= 2" ∷
+    "1 ExchangeStates c1 g0 w0 p0@0{1,2,3} a0 v- y- r[] o[] x{} b0" ∷
+    "2 ExchangeStates c1 g0 w0 p0@0{1,2,3} a0 v- y- r[] o[] x{} b0" ∷
+    "3 ExchangeStates c1 g0 w0 p0@0{1,2,3} a0 v- y- r[] o[] x{} b0" ∷
+    "= 4" ∷
+    "1 Construct c1 g0 w0 p0@0{1,2,3} a1 v1/0{1,2,3}{1} y- r[] o[] x{} b0" ∷
+    "= 5" ∷
+    "2 Construct c1 g0 w0 p0@0{1,2,3} a1 v1/0{1,2,3}{2} y- r[] o[] x{} b0" ∷
+    "= 6" ∷
+    "3 Construct c1 g0 w0 p0@0{1,2,3} a1 v1/0{1,2,3}{3} y- r[] o[] x{} b0" ∷
+    "= 7" ∷
+    "2 Construct c1 g0 w0 p0@0{1,2,3} a1 v1/0{1,2,3}{2} y- r[] o[] x{} b1" ∷
+    "= 8" ∷
+    "1 Construct c1 g0 w0 p0@0{1,2,3} a1 v1/0{1,2,3}{1} y- r[] o[] x{} b1" ∷
+    "= 10" ∷
+    "made 1:1 put \"r\" 2 ? get \"q\"" ∷
+    "1 RegPrim c1 g0 w0 p1@1{1,2,3} a0 v1/0{1,2,3}{1} y- r[] o[1:1] x{} b0" ∷
+    "= 11" ∷
+    "made 1:2 put \"s\" 3 ? count" ∷
+    "1 RegPrim c1 g0 w0 p1@1{1,2,3} a0 v1/0{1,2,3}{1} y- r[] o[1:1,1:2] x{} b0" ∷
+    "= 13" ∷
+    "2 TransPrim t1 g0 w0 p1@1{1,2,3} a0 v1/0{1,2,3}{2} y?[1:1,1:2] r[] o[] x{} b1" ∷
+    "3 TransPrim t1 g0 w0 p1@1{1,2,3} a0 v1/0{1,2,3}{3} y?[1:1,1:2] r[] o[] x{} b0" ∷
+    "= 14" ∷
+    "1 TransPrim t1 g0 w0 p1@1{1,2,3} a0 v1/0{1,2,3}{1} y?[1:1,1:2] r[] o[] x{} b0" ∷
+    "= 15" ∷
+    "1 ExchangeStates c2 g0 w0 p1@1{1,2,3} a0 v- y![1:1,1:2] r[] o[] x{} b0" ∷
+    "2 ExchangeStates c2 g0 w0 p1@1{1,2,3} a0 v- y![1:1,1:2] r[] o[] x{} b1" ∷
+    "3 ExchangeStates c2 g0 w0 p1@1{1,2,3} a0 v- y![1:1,1:2] r[] o[] x{} b0" ∷
+    "= 17" ∷
+    "1 Construct c2 g0 w0 p1@1{1,2,3} a1 v2/1{1,2,3}{1} y![1:1,1:2] r[] o[] x{} b0" ∷
+    "= 18" ∷
+    "2 Construct c2 g0 w0 p1@1{1,2,3} a1 v2/1{1,2,3}{2} y![1:1,1:2] r[] o[] x{} b1" ∷
+    "= 19" ∷
+    "3 Construct c2 g0 w0 p1@1{1,2,3} a1 v2/1{1,2,3}{3} y![1:1,1:2] r[] o[] x{} b0" ∷
+    "= 21" ∷
+    "order 1 1:1" ∷
+    "order 2 1:2" ∷
+    "1 RegPrim c2 g2 w0 p2@2{1,2,3} a0 v2/1{1,2,3}{1} y- r[] o[] x{} b0" ∷
+    "reply 1:1 done ? absent" ∷
+    "reply 1:2 done ? count 2" ∷
+    "= 22" ∷
+    "made 2:1 put \"q\" 1" ∷
+    "2 RegPrim c2 g2 w0 p2@2{1,2,3} a0 v2/1{1,2,3}{2} y- r[] o[2:1] x{} b0" ∷
+    "= 23" ∷
+    "3 RegPrim c2 g2 w0 p2@2{1,2,3} a0 v2/1{1,2,3}{3} y- r[] o[] x{} b0" ∷
+    "= 25" ∷
+    "order 3 2:1" ∷
+    "1 RegPrim c2 g3 w0 p2@2{1,2,3} a0 v2/1{1,2,3}{1} y- r[] o[] x{} b0" ∷
+    "= 26" ∷
+    "2 RegPrim c2 g3 w0 p2@2{1,2,3} a0 v2/1{1,2,3}{2} y- r[] o[] x{} b0" ∷
+    "reply 2:1 done" ∷
+    "= 27" ∷
+    "3 RegPrim c2 g3 w0 p2@2{1,2,3} a0 v2/1{1,2,3}{3} y- r[] o[] x{} b0" ∷
+    "= 29" ∷
+    "all [1:1,1:2,2:1]" ∷
+    "= 30" ∷
+    "greens 2 [1:1,1:2,2:1]" ∷
+    "db 2 \"q\"=1 \"r\"=2 \"s\"=3" ∷
+    "end 30" ∷
+    [])
+unfolding cases_compute
+late_installer_answers_before_others = refl
+
+-- A server that was removed drops its buffered requests.
+leaver_drops_its_buffer_a :
+    replayed_text (
+    "start 1 5 10 13 21" ∷
+    "merge 1 5 10 13 21" ∷
+    "rounds 1" ∷
+    "leave 21 10" ∷
+    "rounds 2" ∷
+    "split 10" ∷
+    "merge 10" ∷
+    "request 10 inc \"ab\" 0" ∷
+    "rounds 2" ∷
+    "end" ∷
+    [])
+    ≡ written (
+    "= 1" ∷
+    "1 NonPrim - g0 w0 p0@0{1,5,10,13,21} a0 v- y- r[] o[] x{} b0" ∷
+    "5 NonPrim - g0 w0 p0@0{1,5,10,13,21} a0 v- y- r[] o[] x{} b0" ∷
+    "10 NonPrim - g0 w0 p0@0{1,5,10,13,21} a0 v- y- r[] o[] x{} b0" ∷
+    "13 NonPrim - g0 w0 p0@0{1,5,10,13,21} a0 v- y- r[] o[] x{} b0" ∷
+    "21 NonPrim - g0 w0 p0@0{1,5,10,13,21} a0 v- y- r[] o[] x{} b0" ∷
+    "= 2" ∷
+    "1 ExchangeStates c1 g0 w0 p0@0{1,5,10,13,21} a0 v- y- r[] o[] x{} b0" ∷
+    "5 ExchangeStates c1 g0 w0 p0@0{1,5,10,13,21} a0 v- y- r[] o[] x{} b0" ∷
+    "10 ExchangeStates c1 g0 w0 p0@0{1,5,10,13,21} a0 v- y- r[] o[] x{} b0" ∷
+    "13 ExchangeStates c1 g0 w0 p0@0{1,5,10,13,21} a0 v- y- r[] o[] x{} b0" ∷
+    "21 ExchangeStates c1 g0 w0 p0@0{1,5,10,13,21} a0 v- y- r[] o[] x{} b0" ∷
+    "= 4" ∷
+    "1 Construct c1 g0 w0 p0@0{1,5,10,13,21} a1 v1/0{1,5,10,13,21}{1} y- r[] o[] x{} b0" ∷
+    "= 5" ∷
+    "5 Construct c1 g0 w0 p0@0{1,5,10,13,21} a1 v1/0{1,5,10,13,21}{5} y- r[] o[] x{} b0" ∷
+    "= 6" ∷
+    "10 Construct c1 g0 w0 p0@0{1,5,10,13,21} a1 v1/0{1,5,10,13,21}{10} y- r[] o[] x{} b0" ∷
+    "= 7" ∷
+    "13 Construct c1 g0 w0 p0@0{1,5,10,13,21} a1 v1/0{1,5,10,13,21}{13} y- r[] o[] x{} b0" ∷
+    "= 8" ∷
+    "21 Construct c1 g0 w0 p0@0{1,5,10,13,21} a1 v1/0{1,5,10,13,21}{21} y- r[] o[] x{} b0" ∷
+    "= 9" ∷
+    "21 Construct c1 g0 w0 p0@0{1,5,10,13,21} a1 v1/0{1,5,10,13,21}{21} y- r[] o[] x{} b1" ∷
+    "= 11" ∷
+    "1 RegPrim c1 g0 w0 p1@1{1,5,10,13,21} a0 v1/0{1,5,10,13,21}{1} y- r[] o[] x{} b0" ∷
+    "= 12" ∷
+    "5 RegPrim c1 g0 w0 p1@1{1,5,10,13,21} a0 v1/0{1,5,10,13,21}{5} y- r[] o[] x{} b0" ∷
+    "= 13" ∷
+    "10 RegPrim c1 g0 w0 p1@1{1,5,10,13,21} a0 v1/0{1,5,10,13,21}{10} y- r[] o[] x{} b0" ∷
+    "= 14" ∷
+    "13 RegPrim c1 g0 w0 p1@1{1,5,10,13,21} a0 v1/0{1,5,10,13,21}{13} y- r[] o[] x{} b0" ∷
+    "= 15" ∷
+    "made 21:1 leave 10" ∷
+    "21 RegPrim c1 g0 w0 p1@1{1,5,10,13,21} a0 v1/0{1,5,10,13,21}{21} y- r[] o[21:1] x{} b0" ∷
+    "= 17" ∷
+    "order 1 21:1" ∷
+    "1 RegPrim c1 g1 w0 p1@1{1,5,10,13,21} a0 v1/0{1,5,10,13,21}{1} y- r[] o[] x{10} b0" ∷
+    "= 18" ∷
+    "5 RegPrim c1 g1 w0 p1@1{1,5,10,13,21} a0 v1/0{1,5,10,13,21}{5} y- r[] o[] x{10} b0" ∷
+    "= 19" ∷
+    "10 RegPrim c1 g1 w0 p1@1{1,5,10,13,21} a0 v1/0{1,5,10,13,21}{10} y- r[] o[] x{10} b0" ∷
+    "= 20" ∷
+    "13 RegPrim c1 g1 w0 p1@1{1,5,10,13,21} a0 v1/0{1,5,10,13,21}{13} y- r[] o[] x{10} b0" ∷
+    "= 21" ∷
+    "21 RegPrim c1 g1 w0 p1@1{1,5,10,13,21} a0 v1/0{1,5,10,13,21}{21} y- r[] o[] x{10} b0" ∷
+    "reply 21:1 done" ∷
+    "= 22" ∷
+    "10 TransPrim t1 g1 w0 p1@1{1,5,10,13,21} a0 v1/0{1,5,10,13,21}{10} y- r[] o[] x{10} b0" ∷
+    "= 23" ∷
+    "10 ExchangeStates c2 g1 w0 p1@1{1,5,10,13,21} a0 v- y![] r[] o[] x{10} b0" ∷
+    "= 24" ∷
+    "10 ExchangeStates c2 g1 w0 p1@1{1,5,10,13,21} a0 v- y![] r[] o[] x{10} b1" ∷
+    "= 26" ∷
+    "10 Left c2 g1 w0 p1@1{1,5,10,13,21} a0 v- y![] r[] o[] x{10} b0" ∷
+    "end 27" ∷
+    [])
+unfolding cases_compute
+leaver_drops_its_buffer_a = refl
+
+-- A server that was removed drops its buffered requests.
+leaver_drops_its_buffer_b :
+    replayed_text (
+    "start 8 24 27" ∷
+    "merge 8 24 27" ∷
+    "split 8 27" ∷
+    "split 24" ∷
+    "merge 8 24 27" ∷
+    "split 8 24" ∷
+    "merge 8 24" ∷
+    "leave 24 8" ∷
+    "gather" ∷
+    "deliver 24 1" ∷
+    "deliver 24 1" ∷
+    "deliver 8 2" ∷
+    "rounds 2" ∷
+    "split 8 24" ∷
+    "merge 8 24" ∷
+    "request 8 cas \"x\" absent 36" ∷
+    "rounds 1" ∷
+    "end" ∷
+    [])
+    ≡ written (
+    "= 1" ∷
+    "8 NonPrim - g0 w0 p0@0{8,24,27} a0 v- y- r[] o[] x{} b0" ∷
+    "24 NonPrim - g0 w0 p0@0{8,24,27} a0 v- y- r[] o[] x{} b0" ∷
+    "27 NonPrim - g0 w0 p0@0{8,24,27} a0 v- y- r[] o[] x{} b0" ∷
+    "= 2" ∷
+    "8 ExchangeStates c1 g0 w0 p0@0{8,24,27} a0 v- y- r[] o[] x{} b0" ∷
+    "24 ExchangeStates c1 g0 w0 p0@0{8,24,27} a0 v- y- r[] o[] x{} b0" ∷
+    "27 ExchangeStates c1 g0 w0 p0@0{8,24,27} a0 v- y- r[] o[] x{} b0" ∷
+    "= 3" ∷
+    "8 NonPrim t1 g0 w0 p0@0{8,24,27} a0 v- y- r[] o[] x{} b0" ∷
+    "27 NonPrim t1 g0 w0 p0@0{8,24,27} a0 v- y- r[] o[] x{} b0" ∷
+    "= 4" ∷
+    "24 NonPrim t1 g0 w0 p0@0{8,24,27} a0 v- y- r[] o[] x{} b0" ∷
+    "= 5" ∷
+    "8 ExchangeStates c2 g0 w0 p0@0{8,24,27} a0 v- y- r[] o[] x{} b0" ∷
+    "24 ExchangeStates c2 g0 w0 p0@0{8,24,27} a0 v- y- r[] o[] x{} b0" ∷
+    "27 ExchangeStates c2 g0 w0 p0@0{8,24,27} a0 v- y- r[] o[] x{} b0" ∷
+    "= 6" ∷
+    "8 NonPrim t2 g0 w0 p0@0{8,24,27} a0 v- y- r[] o[] x{} b0" ∷
+    "24 NonPrim t2 g0 w0 p0@0{8,24,27} a0 v- y- r[] o[] x{} b0" ∷
+    "= 7" ∷
+    "8 ExchangeStates c3 g0 w0 p0@0{8,24,27} a0 v- y- r[] o[] x{} b0" ∷
+    "24 ExchangeStates c3 g0 w0 p0@0{8,24,27} a0 v- y- r[] o[] x{} b0" ∷
+    "= 8" ∷
+    "24 ExchangeStates c3 g0 w0 p0@0{8,24,27} a0 v- y- r[] o[] x{} b1" ∷
+    "= 11" ∷
+    "24 Construct c3 g0 w0 p0@0{8,24,27} a1 v3/0{8,24}{24} y- r[] o[] x{} b1" ∷
+    "= 12" ∷
+    "8 Construct c3 g0 w0 p0@0{8,24,27} a1 v3/0{8,24}{8} y- r[] o[] x{} b0" ∷
+    "= 14" ∷
+    "8 RegPrim c3 g0 w0 p1@3{8,24} a0 v3/0{8,24}{8} y- r[] o[] x{} b0" ∷
+    "= 15" ∷
+    "made 24:1 leave 8" ∷
+    "24 RegPrim c3 g0 w0 p1@3{8,24} a0 v3/0{8,24}{24} y- r[] o[24:1] x{} b0" ∷
+    "= 17" ∷
+    "order 1 24:1" ∷
+    "8 RegPrim c3 g1 w0 p1@3{8,24} a0 v3/0{8,24}{8} y- r[] o[] x{8} b0" ∷
+    "= 18" ∷
+    "24 RegPrim c3 g1 w0 p1@3{8,24} a0 v3/0{8,24}{24} y- r[] o[] x{8} b0" ∷
+    "reply 24:1 done" ∷
+    "= 19" ∷
+    "8 TransPrim t3 g1 w0 p1@3{8,24} a0 v3/0{8,24}{8} y- r[] o[] x{8} b0" ∷
+    "24 TransPrim t3 g1 w0 p1@3{8,24} a0 v3/0{8,24}{24} y- r[] o[] x{8} b0" ∷
+    "= 20" ∷
+    "8 ExchangeStates c4 g1 w0 p1@3{8,24} a0 v- y![] r[] o[] x{8} b0" ∷
+    "24 ExchangeStates c4 g1 w0 p1@3{8,24} a0 v- y![] r[] o[] x{8} b0" ∷
+    "= 21" ∷
+    "8 ExchangeStates c4 g1 w0 p1@3{8,24} a0 v- y![] r[] o[] x{8} b1" ∷
+    "= 23" ∷
+    "8 Left c4 g1 w0 p1@3{8,24} a0 v- y![] r[] o[] x{8} b0" ∷
+    "= 24" ∷
+    "24 NonPrim c4 g1 w0 p1@3{8,24} a0 v- y![] r[] o[] x{8} b0" ∷
+    "end 24" ∷
+    [])
+unfolding cases_compute
+leaver_drops_its_buffer_b = refl
+
+-- A server that was removed drops its buffered requests.
+leaver_drops_its_buffer_c :
+    replayed_text (
+    "start 1 2 3 4" ∷
+    "merge 1 2 3 4" ∷
+    "rounds 2" ∷
+    "leave 3 4" ∷
+    "rounds 1" ∷
+    "split 2" ∷
+    "split 1 3 4" ∷
+    "merge 1 3 4" ∷
+    "join 4 6" ∷
+    "split 1 3 4" ∷
+    "merge 1 2 3 4" ∷
+    "rounds 2" ∷
+    "end" ∷
+    [])
+    ≡ written (
+    "= 1" ∷
+    "1 NonPrim - g0 w0 p0@0{1,2,3,4} a0 v- y- r[] o[] x{} b0" ∷
+    "2 NonPrim - g0 w0 p0@0{1,2,3,4} a0 v- y- r[] o[] x{} b0" ∷
+    "3 NonPrim - g0 w0 p0@0{1,2,3,4} a0 v- y- r[] o[] x{} b0" ∷
+    "4 NonPrim - g0 w0 p0@0{1,2,3,4} a0 v- y- r[] o[] x{} b0" ∷
+    "= 2" ∷
+    "1 ExchangeStates c1 g0 w0 p0@0{1,2,3,4} a0 v- y- r[] o[] x{} b0" ∷
+    "2 ExchangeStates c1 g0 w0 p0@0{1,2,3,4} a0 v- y- r[] o[] x{} b0" ∷
+    "3 ExchangeStates c1 g0 w0 p0@0{1,2,3,4} a0 v- y- r[] o[] x{} b0" ∷
+    "4 ExchangeStates c1 g0 w0 p0@0{1,2,3,4} a0 v- y- r[] o[] x{} b0" ∷
+    "= 4" ∷
+    "1 Construct c1 g0 w0 p0@0{1,2,3,4} a1 v1/0{1,2,3,4}{1} y- r[] o[] x{} b0" ∷
+    "= 5" ∷
+    "2 Construct c1 g0 w0 p0@0{1,2,3,4} a1 v1/0{1,2,3,4}{2} y- r[] o[] x{} b0" ∷
+    "= 6" ∷
+    "3 Construct c1 g0 w0 p0@0{1,2,3,4} a1 v1/0{1,2,3,4}{3} y- r[] o[] x{} b0" ∷
+    "= 7" ∷
+    "4 Construct c1 g0 w0 p0@0{1,2,3,4} a1 v1/0{1,2,3,4}{4} y- r[] o[] x{} b0" ∷
+    "= 9" ∷
+    "1 RegPrim c1 g0 w0 p1@1{1,2,3,4} a0 v1/0{1,2,3,4}{1} y- r[] o[] x{} b0" ∷
+    "= 10" ∷
+    "2 RegPrim c1 g0 w0 p1@1{1,2,3,4} a0 v1/0{1,2,3,4}{2} y- r[] o[] x{} b0" ∷
+    "= 11" ∷
+    "3 RegPrim c1 g0 w0 p1@1{1,2,3,4} a0 v1/0{1,2,3,4}{3} y- r[] o[] x{} b0" ∷
+    "= 12" ∷
+    "4 RegPrim c1 g0 w0 p1@1{1,2,3,4} a0 v1/0{1,2,3,4}{4} y- r[] o[] x{} b0" ∷
+    "= 13" ∷
+    "made 3:1 leave 4" ∷
+    "3 RegPrim c1 g0 w0 p1@1{1,2,3,4} a0 v1/0{1,2,3,4}{3} y- r[] o[3:1] x{} b0" ∷
+    "= 15" ∷
+    "order 1 3:1" ∷
+    "1 RegPrim c1 g1 w0 p1@1{1,2,3,4} a0 v1/0{1,2,3,4}{1} y- r[] o[] x{4} b0" ∷
+    "= 16" ∷
+    "2 RegPrim c1 g1 w0 p1@1{1,2,3,4} a0 v1/0{1,2,3,4}{2} y- r[] o[] x{4} b0" ∷
+    "= 17" ∷
+    "3 RegPrim c1 g1 w0 p1@1{1,2,3,4} a0 v1/0{1,2,3,4}{3} y- r[] o[] x{4} b0" ∷
+    "reply 3:1 done" ∷
+    "= 18" ∷
+    "4 RegPrim c1 g1 w0 p1@1{1,2,3,4} a0 v1/0{1,2,3,4}{4} y- r[] o[] x{4} b0" ∷
+    "= 19" ∷
+    "2 TransPrim t1 g1 w0 p1@1{1,2,3,4} a0 v1/0{1,2,3,4}{2} y- r[] o[] x{4} b0" ∷
+    "= 20" ∷
+    "1 TransPrim t1 g1 w0 p1@1{1,2,3,4} a0 v1/0{1,2,3,4}{1} y- r[] o[] x{4} b0" ∷
+    "3 TransPrim t1 g1 w0 p1@1{1,2,3,4} a0 v1/0{1,2,3,4}{3} y- r[] o[] x{4} b0" ∷
+    "4 TransPrim t1 g1 w0 p1@1{1,2,3,4} a0 v1/0{1,2,3,4}{4} y- r[] o[] x{4} b0" ∷
+    "= 21" ∷
+    "1 ExchangeStates c2 g1 w0 p1@1{1,2,3,4} a0 v- y![] r[] o[] x{4} b0" ∷
+    "3 ExchangeStates c2 g1 w0 p1@1{1,2,3,4} a0 v- y![] r[] o[] x{4} b0" ∷
+    "4 ExchangeStates c2 g1 w0 p1@1{1,2,3,4} a0 v- y![] r[] o[] x{4} b0" ∷
+    "= 22" ∷
+    "4 ExchangeStates c2 g1 w0 p1@1{1,2,3,4} a0 v- y![] r[] o[] x{4} b1" ∷
+    "= 23" ∷
+    "1 NonPrim t2 g1 w0 p1@1{1,2,3,4} a0 v- y![] r[] o[] x{4} b0" ∷
+    "3 NonPrim t2 g1 w0 p1@1{1,2,3,4} a0 v- y![] r[] o[] x{4} b0" ∷
+    "4 NonPrim t2 g1 w0 p1@1{1,2,3,4} a0 v- y![] r[] o[] x{4} b1" ∷
+    "= 24" ∷
+    "1 ExchangeStates c3 g1 w0 p1@1{1,2,3,4} a0 v- y![] r[] o[] x{4} b0" ∷
+    "2 ExchangeStates c3 g1 w0 p1@1{1,2,3,4} a0 v- y![] r[] o[] x{4} b0" ∷
+    "3 ExchangeStates c3 g1 w0 p1@1{1,2,3,4} a0 v- y![] r[] o[] x{4} b0" ∷
+    "4 ExchangeStates c3 g1 w0 p1@1{1,2,3,4} a0 v- y![] r[] o[] x{4} b1" ∷
+    "= 26" ∷
+    "1 Construct c3 g1 w0 p1@1{1,2,3,4} a1 v3/1{1,2,3}{1} y![] r[] o[] x{4} b0" ∷
+    "= 27" ∷
+    "2 Construct c3 g1 w0 p1@1{1,2,3,4} a1 v3/1{1,2,3}{2} y![] r[] o[] x{4} b0" ∷
+    "= 28" ∷
+    "3 Construct c3 g1 w0 p1@1{1,2,3,4} a1 v3/1{1,2,3}{3} y![] r[] o[] x{4} b0" ∷
+    "= 29" ∷
+    "4 Left c3 g1 w0 p1@1{1,2,3,4} a0 v- y![] r[] o[] x{4} b0" ∷
+    "= 31" ∷
+    "1 RegPrim c3 g1 w0 p2@3{1,2,3} a0 v3/1{1,2,3}{1} y- r[] o[] x{4} b0" ∷
+    "= 32" ∷
+    "2 RegPrim c3 g1 w0 p2@3{1,2,3} a0 v3/1{1,2,3}{2} y- r[] o[] x{4} b0" ∷
+    "= 33" ∷
+    "3 RegPrim c3 g1 w0 p2@3{1,2,3} a0 v3/1{1,2,3}{3} y- r[] o[] x{4} b0" ∷
+    "end 34" ∷
+    [])
+unfolding cases_compute
+leaver_drops_its_buffer_c = refl

@@ -4,649 +4,28 @@ use mathlib.Core.Path.{refl}
 use Rattle.cg_run_cases.specs.Replaying.{replayed_text, written}
 use Rattle.cg_run_cases.specs.Computing.{cases_compute}
 
--- Replicas at the start: 1: a primary is lost in a partition, and after a merge red actions are ordered; a crash strikes inside a device call.
-one_replica_primary_lost_and_reds_ordered_crash_in_a_device_call_d :
-    replayed_text (
-    "start 1" ∷
-    "merge 1" ∷
-    "rounds 2" ∷
-    "request 1 inc \"k2\" 8" ∷
-    "request 1 inc \"x\" -9223372036854775808 ? get \"x\"" ∷
-    "rounds 1" ∷
-    "rounds 1" ∷
-    "split 1" ∷
-    "merge 1" ∷
-    "gather" ∷
-    "deliver 1 1" ∷
-    "gather" ∷
-    "gather" ∷
-    "request 1 need \"k1\" absent; move \"abc\" \"ab\" 5" ∷
-    "deliver 1 1" ∷
-    "gather" ∷
-    "stop 1 11 01" ∷
-    "show 1" ∷
-    "gather" ∷
-    "request 1 cas \"a\" -1 65 ? get \"k1\"" ∷
-    "gather" ∷
-    "rounds 2" ∷
-    "request 1 inc \"z\" -9223372036854775808 ? count" ∷
-    "recover 1" ∷
-    "merge 1" ∷
-    "gather" ∷
-    "rounds 1" ∷
-    "gather" ∷
-    "deliver 1 1" ∷
-    "split 1" ∷
-    "gather" ∷
-    "merge 1" ∷
-    "rounds 3" ∷
-    "rounds 3" ∷
-    "split 1" ∷
-    "merge 1" ∷
-    "gather" ∷
-    "gather" ∷
-    "deliver 1 1" ∷
-    "request 1 inc \"ab\" 9223372036854775807; inc \"a\" 12; put \"a\" 82; put \"b\" 72; cas \"b\" absent -1; del \"y\"; inc \"abc\" 4; need \"ab\" 75; move \"z\" \"y\" 7; put \"y\" 50; inc \"x\" -1; del \"k1\"; inc \"z\" -3; del \"a\"; inc \"x\" 6; inc \"a\" 0 ? get \"k1\"" ∷
-    "request 1 cas \"b\" absent 53; inc \"x\" 1 ? get \"y\"" ∷
-    "rounds 1" ∷
-    "stop 1 0 00" ∷
-    "gather" ∷
-    "recover 1" ∷
-    "merge 1" ∷
-    "show 1" ∷
-    "end" ∷
-    [])
-    ≡ written (
-    "= 1" ∷
-    "1 NonPrim - g0 w0 p0@0{1} a0 v- y- r[] o[] x{} b0" ∷
-    "= 2" ∷
-    "1 ExchangeStates c1 g0 w0 p0@0{1} a0 v- y- r[] o[] x{} b0" ∷
-    "= 4" ∷
-    "1 Construct c1 g0 w0 p0@0{1} a1 v1/0{1}{1} y- r[] o[] x{} b0" ∷
-    "= 6" ∷
-    "1 RegPrim c1 g0 w0 p1@1{1} a0 v1/0{1}{1} y- r[] o[] x{} b0" ∷
-    "= 7" ∷
-    "made 1:1 inc \"k2\" 8" ∷
-    "1 RegPrim c1 g0 w0 p1@1{1} a0 v1/0{1}{1} y- r[] o[1:1] x{} b0" ∷
-    "= 8" ∷
-    "made 1:2 inc \"x\" -9223372036854775808 ? get \"x\"" ∷
-    "1 RegPrim c1 g0 w0 p1@1{1} a0 v1/0{1}{1} y- r[] o[1:1,1:2] x{} b0" ∷
-    "= 10" ∷
-    "order 1 1:1" ∷
-    "order 2 1:2" ∷
-    "1 RegPrim c1 g2 w0 p1@1{1} a0 v1/0{1}{1} y- r[] o[] x{} b0" ∷
-    "reply 1:1 done" ∷
-    "reply 1:2 done ? -9223372036854775808" ∷
-    "= 12" ∷
-    "1 TransPrim t1 g2 w0 p1@1{1} a0 v1/0{1}{1} y- r[] o[] x{} b0" ∷
-    "= 13" ∷
-    "1 ExchangeStates c2 g2 w0 p1@1{1} a0 v- y![] r[] o[] x{} b0" ∷
-    "= 15" ∷
-    "1 Construct c2 g2 w0 p1@1{1} a1 v2/1{1}{1} y![] r[] o[] x{} b0" ∷
-    "= 18" ∷
-    "1 Construct c2 g2 w0 p1@1{1} a1 v2/1{1}{1} y![] r[] o[] x{} b1" ∷
-    "= 19" ∷
-    "made 1:3 need \"k1\" absent; move \"abc\" \"ab\" 5" ∷
-    "1 RegPrim c2 g2 w0 p2@2{1} a0 v2/1{1}{1} y- r[] o[1:3] x{} b0" ∷
-    "= 22" ∷
-    "greens 1 [1:1,1:2]" ∷
-    "db 1 \"k2\"=8 \"x\"=-9223372036854775808" ∷
-    "= 24" ∷
-    "made 1:4 cas \"a\" -1 65 ? get \"k1\"" ∷
-    "1 RegPrim c2 g2 w0 p2@2{1} a0 v2/1{1}{1} y- r[] o[1:3,1:4] x{} b0" ∷
-    "= 27" ∷
-    "order 3 1:3" ∷
-    "order 4 1:4" ∷
-    "1 RegPrim c2 g4 w2 p2@2{1} a0 v2/1{1}{1} y- r[] o[] x{} b0" ∷
-    "reply 1:3 aborted 2" ∷
-    "reply 1:4 done ? absent" ∷
-    "= 29" ∷
-    "1 Down" ∷
-    "= 30" ∷
-    "made 1:5 inc \"z\" -9223372036854775808 ? count" ∷
-    "1 NonPrim - g4 w2 p2@2{1} a0 v2/1{1}{1} y- r[1:5] o[] x{} b0" ∷
-    "= 31" ∷
-    "1 ExchangeStates c3 g4 w2 p2@2{1} a0 v2/1{1}{1} y- r[1:5] o[] x{} b0" ∷
-    "= 34" ∷
-    "1 Construct c3 g4 w2 p2@2{1} a1 v3/2{1}{1} y- r[1:5] o[] x{} b0" ∷
-    "= 36" ∷
-    "order 5 1:5" ∷
-    "1 RegPrim c3 g5 w4 p3@3{1} a0 v3/2{1}{1} y- r[] o[] x{} b0" ∷
-    "= 37" ∷
-    "1 TransPrim t3 g5 w4 p3@3{1} a0 v3/2{1}{1} y- r[] o[] x{} b0" ∷
-    "= 39" ∷
-    "1 ExchangeStates c4 g5 w4 p3@3{1} a0 v- y![] r[] o[] x{} b0" ∷
-    "= 41" ∷
-    "1 Construct c4 g5 w4 p3@3{1} a1 v4/3{1}{1} y![] r[] o[] x{} b0" ∷
-    "= 43" ∷
-    "1 RegPrim c4 g5 w4 p4@4{1} a0 v4/3{1}{1} y- r[] o[] x{} b0" ∷
-    "= 48" ∷
-    "1 TransPrim t4 g5 w4 p4@4{1} a0 v4/3{1}{1} y- r[] o[] x{} b0" ∷
-    "= 49" ∷
-    "1 ExchangeStates c5 g5 w4 p4@4{1} a0 v- y![] r[] o[] x{} b0" ∷
-    "= 52" ∷
-    "1 Construct c5 g5 w4 p4@4{1} a1 v5/4{1}{1} y![] r[] o[] x{} b0" ∷
-    "= 53" ∷
-    "1 Construct c5 g5 w4 p4@4{1} a1 v5/4{1}{1} y![] r[] o[] x{} b1" ∷
-    "= 54" ∷
-    "1 Construct c5 g5 w4 p4@4{1} a1 v5/4{1}{1} y![] r[] o[] x{} b2" ∷
-    "= 56" ∷
-    "made 1:6 inc \"ab\" 9223372036854775807; inc \"a\" 12; put \"a\" 82; put \"b\" 72; cas \"b\" absent -1; del \"y\"; inc \"abc\" 4; need \"ab\" 75; move \"z\" \"y\" 7; put \"y\" 50; inc \"x\" -1; del \"k1\"; inc \"z\" -3; del \"a\"; inc \"x\" 6; inc \"a\" 0 ? get \"k1\"" ∷
-    "made 1:7 cas \"b\" absent 53; inc \"x\" 1 ? get \"y\"" ∷
-    "1 RegPrim c5 g5 w4 p5@5{1} a0 v5/4{1}{1} y- r[] o[1:6,1:7] x{} b0" ∷
-    "= 57" ∷
-    "1 Down" ∷
-    "= 59" ∷
-    "1 NonPrim - g5 w4 p5@5{1} a0 v5/4{1}{1} y- r[1:6,1:7] o[] x{} b0" ∷
-    "= 60" ∷
-    "1 ExchangeStates c6 g5 w4 p5@5{1} a0 v5/4{1}{1} y- r[1:6,1:7] o[] x{} b0" ∷
-    "= 61" ∷
-    "greens 1 [1:5]" ∷
-    "db 1 \"k2\"=8 \"x\"=-9223372036854775808 \"z\"=-9223372036854775808" ∷
-    "end 61" ∷
-    [])
-unfolding cases_compute
-one_replica_primary_lost_and_reds_ordered_crash_in_a_device_call_d = refl
-
--- Replicas at the start: 1: a primary is split.
-one_replica_primary_split_a_from_discarding :
-    replayed_text (
-    "start 29" ∷
-    "merge 29" ∷
-    "rounds 2" ∷
-    "request 29 inc \"z\" 5; inc \"a\" 7 ? get \"b\"" ∷
-    "gather" ∷
-    "deliver 29 1" ∷
-    "split 29" ∷
-    "merge 29" ∷
-    "rounds 2" ∷
-    "request 29 put \"y\" 76 ? keys \"q\"" ∷
-    "rounds 2" ∷
-    "request 29 put \"abc\" 97" ∷
-    "request 29 put \"x\" 67" ∷
-    "gather" ∷
-    "deliver 29 1" ∷
-    "gather" ∷
-    "rounds 2" ∷
-    "show 29" ∷
-    "rounds 1" ∷
-    "rounds 2" ∷
-    "request 29 need \"abc\" absent; inc \"ab\" 2" ∷
-    "request 29 move \"abc\" \"z\" 0 ? count" ∷
-    "gather" ∷
-    "request 29 put \"z\" \"back\\\\slash\"" ∷
-    "deliver 29 2" ∷
-    "request 29 inc \"b\" 4 ? get \"z\"" ∷
-    "order 29" ∷
-    "rounds 2" ∷
-    "request 29 inc \"b\" 12; put \"k1\" 89; move \"x\" \"y\" 5; inc \"x\" -3" ∷
-    "end" ∷
-    [])
-    ≡ written (
-    "= 1" ∷
-    "29 NonPrim - g0 w0 p0@0{29} a0 v- y- r[] o[] x{} b0" ∷
-    "= 2" ∷
-    "29 ExchangeStates c1 g0 w0 p0@0{29} a0 v- y- r[] o[] x{} b0" ∷
-    "= 4" ∷
-    "29 Construct c1 g0 w0 p0@0{29} a1 v1/0{29}{29} y- r[] o[] x{} b0" ∷
-    "= 6" ∷
-    "29 RegPrim c1 g0 w0 p1@1{29} a0 v1/0{29}{29} y- r[] o[] x{} b0" ∷
-    "= 7" ∷
-    "made 29:1 inc \"z\" 5; inc \"a\" 7 ? get \"b\"" ∷
-    "29 RegPrim c1 g0 w0 p1@1{29} a0 v1/0{29}{29} y- r[] o[29:1] x{} b0" ∷
-    "= 9" ∷
-    "order 1 29:1" ∷
-    "29 RegPrim c1 g1 w0 p1@1{29} a0 v1/0{29}{29} y- r[] o[] x{} b0" ∷
-    "reply 29:1 done ? absent" ∷
-    "= 10" ∷
-    "29 TransPrim t1 g1 w0 p1@1{29} a0 v1/0{29}{29} y- r[] o[] x{} b0" ∷
-    "= 11" ∷
-    "29 ExchangeStates c2 g1 w0 p1@1{29} a0 v- y![] r[] o[] x{} b0" ∷
-    "= 13" ∷
-    "29 Construct c2 g1 w0 p1@1{29} a1 v2/1{29}{29} y![] r[] o[] x{} b0" ∷
-    "= 15" ∷
-    "29 RegPrim c2 g1 w0 p2@2{29} a0 v2/1{29}{29} y- r[] o[] x{} b0" ∷
-    "= 16" ∷
-    "made 29:2 put \"y\" 76 ? keys \"q\"" ∷
-    "29 RegPrim c2 g1 w0 p2@2{29} a0 v2/1{29}{29} y- r[] o[29:2] x{} b0" ∷
-    "= 18" ∷
-    "order 2 29:2" ∷
-    "29 RegPrim c2 g2 w1 p2@2{29} a0 v2/1{29}{29} y- r[] o[] x{} b0" ∷
-    "reply 29:2 done ? keys" ∷
-    "= 20" ∷
-    "made 29:3 put \"abc\" 97" ∷
-    "29 RegPrim c2 g2 w1 p2@2{29} a0 v2/1{29}{29} y- r[] o[29:3] x{} b0" ∷
-    "= 21" ∷
-    "made 29:4 put \"x\" 67" ∷
-    "29 RegPrim c2 g2 w1 p2@2{29} a0 v2/1{29}{29} y- r[] o[29:3,29:4] x{} b0" ∷
-    "= 23" ∷
-    "order 3 29:3" ∷
-    "29 RegPrim c2 g3 w2 p2@2{29} a0 v2/1{29}{29} y- r[] o[29:4] x{} b0" ∷
-    "reply 29:3 done" ∷
-    "= 26" ∷
-    "order 4 29:4" ∷
-    "29 RegPrim c2 g4 w2 p2@2{29} a0 v2/1{29}{29} y- r[] o[] x{} b0" ∷
-    "reply 29:4 done" ∷
-    "= 28" ∷
-    "greens 29 [29:3,29:4]" ∷
-    "db 29 \"a\"=7 \"abc\"=97 \"x\"=67 \"y\"=76 \"z\"=5" ∷
-    "= 32" ∷
-    "made 29:5 need \"abc\" absent; inc \"ab\" 2" ∷
-    "29 RegPrim c2 g4 w2 p2@2{29} a0 v2/1{29}{29} y- r[] o[29:5] x{} b0" ∷
-    "= 33" ∷
-    "made 29:6 move \"abc\" \"z\" 0 ? count" ∷
-    "29 RegPrim c2 g4 w2 p2@2{29} a0 v2/1{29}{29} y- r[] o[29:5,29:6] x{} b0" ∷
-    "= 35" ∷
-    "made 29:7 put \"z\" \"back\\\\slash\"" ∷
-    "29 RegPrim c2 g4 w2 p2@2{29} a0 v2/1{29}{29} y- r[] o[29:5,29:6,29:7] x{} b0" ∷
-    "= 36" ∷
-    "order 5 29:5" ∷
-    "order 6 29:6" ∷
-    "29 RegPrim c2 g6 w4 p2@2{29} a0 v2/1{29}{29} y- r[] o[29:7] x{} b0" ∷
-    "reply 29:5 aborted 1" ∷
-    "reply 29:6 done ? count 5" ∷
-    "= 37" ∷
-    "made 29:8 inc \"b\" 4 ? get \"z\"" ∷
-    "29 RegPrim c2 g6 w4 p2@2{29} a0 v2/1{29}{29} y- r[] o[29:7,29:8] x{} b0" ∷
-    "= 40" ∷
-    "order 7 29:7" ∷
-    "order 8 29:8" ∷
-    "29 RegPrim c2 g8 w6 p2@2{29} a0 v2/1{29}{29} y- r[] o[] x{} b0" ∷
-    "reply 29:7 done" ∷
-    "reply 29:8 done ? \"back\\\\slash\"" ∷
-    "= 42" ∷
-    "made 29:9 inc \"b\" 12; put \"k1\" 89; move \"x\" \"y\" 5; inc \"x\" -3" ∷
-    "29 RegPrim c2 g8 w6 p2@2{29} a0 v2/1{29}{29} y- r[] o[29:9] x{} b0" ∷
-    "end 42" ∷
-    [])
-unfolding cases_compute
-one_replica_primary_split_a_from_discarding = refl
-
--- Replicas at the start: 1: several primaries follow one another.
-one_replica_several_primaries_a_from_discarding :
-    replayed_text (
-    "start 1" ∷
-    "merge 1" ∷
-    "split 1" ∷
-    "merge 1" ∷
-    "split 1" ∷
-    "show order" ∷
-    "merge 1" ∷
-    "gather" ∷
-    "gather" ∷
-    "deliver 1 1" ∷
-    "gather" ∷
-    "rounds 2" ∷
-    "request 1 put \"z\" \"-1\" ? get \"z\"" ∷
-    "gather" ∷
-    "gather" ∷
-    "split 1" ∷
-    "merge 1" ∷
-    "request 1 put \"x\" 78; inc \"a\" 11" ∷
-    "split 1" ∷
-    "merge 1" ∷
-    "request 1 need \"a\" absent; inc \"abc\" -1 ? get \"y\"" ∷
-    "request 1 put \"abc\" 73" ∷
-    "gather" ∷
-    "deliver 1 1" ∷
-    "gather" ∷
-    "gather" ∷
-    "split 1" ∷
-    "merge 1" ∷
-    "gather" ∷
-    "gather" ∷
-    "deliver 1 1" ∷
-    "order 1" ∷
-    "gather" ∷
-    "deliver 1 1" ∷
-    "gather" ∷
-    "gather" ∷
-    "gather" ∷
-    "deliver 1 2" ∷
-    "deliver 1 1" ∷
-    "split 1" ∷
-    "merge 1" ∷
-    "order 1" ∷
-    "gather" ∷
-    "gather" ∷
-    "gather" ∷
-    "request 1 inc \"b\" 4" ∷
-    "show 1" ∷
-    "gather" ∷
-    "request 1 inc \"x\" -2" ∷
-    "deliver 1 1" ∷
-    "gather" ∷
-    "deliver 1 1" ∷
-    "gather" ∷
-    "gather" ∷
-    "gather" ∷
-    "split 1" ∷
-    "merge 1" ∷
-    "gather" ∷
-    "gather" ∷
-    "end" ∷
-    [])
-    ≡ written (
-    "= 1" ∷
-    "1 NonPrim - g0 w0 p0@0{1} a0 v- y- r[] o[] x{} b0" ∷
-    "= 2" ∷
-    "1 ExchangeStates c1 g0 w0 p0@0{1} a0 v- y- r[] o[] x{} b0" ∷
-    "= 3" ∷
-    "1 NonPrim t1 g0 w0 p0@0{1} a0 v- y- r[] o[] x{} b0" ∷
-    "= 4" ∷
-    "1 ExchangeStates c2 g0 w0 p0@0{1} a0 v- y- r[] o[] x{} b0" ∷
-    "= 5" ∷
-    "1 NonPrim t2 g0 w0 p0@0{1} a0 v- y- r[] o[] x{} b0" ∷
-    "= 6" ∷
-    "all []" ∷
-    "= 7" ∷
-    "1 ExchangeStates c3 g0 w0 p0@0{1} a0 v- y- r[] o[] x{} b0" ∷
-    "= 10" ∷
-    "1 Construct c3 g0 w0 p0@0{1} a1 v3/0{1}{1} y- r[] o[] x{} b0" ∷
-    "= 13" ∷
-    "1 RegPrim c3 g0 w0 p1@3{1} a0 v3/0{1}{1} y- r[] o[] x{} b0" ∷
-    "= 15" ∷
-    "made 1:1 put \"z\" \"-1\" ? get \"z\"" ∷
-    "1 RegPrim c3 g0 w0 p1@3{1} a0 v3/0{1}{1} y- r[] o[1:1] x{} b0" ∷
-    "= 18" ∷
-    "1 TransPrim t3 g0 w0 p1@3{1} a0 v3/0{1}{1} y?[1:1] r[] o[] x{} b0" ∷
-    "= 19" ∷
-    "1 ExchangeStates c4 g0 w0 p1@3{1} a0 v- y![1:1] r[] o[] x{} b0" ∷
-    "= 20" ∷
-    "1 ExchangeStates c4 g0 w0 p1@3{1} a0 v- y![1:1] r[] o[] x{} b1" ∷
-    "= 21" ∷
-    "1 NonPrim t4 g0 w0 p1@3{1} a0 v- y![1:1] r[] o[] x{} b1" ∷
-    "= 22" ∷
-    "1 ExchangeStates c5 g0 w0 p1@3{1} a0 v- y![1:1] r[] o[] x{} b1" ∷
-    "= 23" ∷
-    "1 ExchangeStates c5 g0 w0 p1@3{1} a0 v- y![1:1] r[] o[] x{} b2" ∷
-    "= 24" ∷
-    "1 ExchangeStates c5 g0 w0 p1@3{1} a0 v- y![1:1] r[] o[] x{} b3" ∷
-    "= 26" ∷
-    "1 Construct c5 g0 w0 p1@3{1} a1 v5/1{1}{1} y![1:1] r[] o[] x{} b3" ∷
-    "= 29" ∷
-    "1 Un t5 g0 w0 p1@3{1} a1 v5/1{1}{1} y![1:1] r[] o[] x{} b3" ∷
-    "= 30" ∷
-    "1 ExchangeStates c6 g0 w0 p1@3{1} a1 v5/1{1}{1} y![1:1] r[] o[] x{} b3" ∷
-    "= 33" ∷
-    "1 Construct c6 g0 w0 p1@3{1} a2 v6/1{1}{1} y![1:1] r[] o[] x{} b3" ∷
-    "= 36" ∷
-    "made 1:2 put \"x\" 78; inc \"a\" 11" ∷
-    "made 1:3 need \"a\" absent; inc \"abc\" -1 ? get \"y\"" ∷
-    "made 1:4 put \"abc\" 73" ∷
-    "order 1 1:1" ∷
-    "1 RegPrim c6 g1 w0 p2@6{1} a0 v6/1{1}{1} y- r[] o[1:2,1:3,1:4] x{} b0" ∷
-    "reply 1:1 done ? \"-1\"" ∷
-    "= 40" ∷
-    "order 2 1:2" ∷
-    "order 3 1:3" ∷
-    "1 RegPrim c6 g3 w1 p2@6{1} a0 v6/1{1}{1} y- r[] o[1:4] x{} b0" ∷
-    "reply 1:2 done" ∷
-    "reply 1:3 aborted 1 ? absent" ∷
-    "= 41" ∷
-    "order 4 1:4" ∷
-    "1 RegPrim c6 g4 w1 p2@6{1} a0 v6/1{1}{1} y- r[] o[] x{} b0" ∷
-    "reply 1:4 done" ∷
-    "= 42" ∷
-    "1 TransPrim t6 g4 w1 p2@6{1} a0 v6/1{1}{1} y- r[] o[] x{} b0" ∷
-    "= 43" ∷
-    "1 ExchangeStates c7 g4 w1 p2@6{1} a0 v- y![] r[] o[] x{} b0" ∷
-    "= 48" ∷
-    "1 ExchangeStates c7 g4 w1 p2@6{1} a0 v- y![] r[] o[] x{} b1" ∷
-    "= 49" ∷
-    "greens 1 [1:2,1:3,1:4]" ∷
-    "db 1 \"a\"=11 \"abc\"=73 \"x\"=78 \"z\"=\"-1\"" ∷
-    "= 51" ∷
-    "1 ExchangeStates c7 g4 w1 p2@6{1} a0 v- y![] r[] o[] x{} b2" ∷
-    "= 52" ∷
-    "1 Construct c7 g4 w1 p2@6{1} a1 v7/2{1}{1} y![] r[] o[] x{} b2" ∷
-    "= 54" ∷
-    "made 1:5 inc \"b\" 4" ∷
-    "made 1:6 inc \"x\" -2" ∷
-    "1 RegPrim c7 g4 w1 p3@7{1} a0 v7/2{1}{1} y- r[] o[1:5,1:6] x{} b0" ∷
-    "= 58" ∷
-    "1 TransPrim t7 g4 w1 p3@7{1} a0 v7/2{1}{1} y?[1:5,1:6] r[] o[] x{} b0" ∷
-    "= 59" ∷
-    "1 ExchangeStates c8 g4 w1 p3@7{1} a0 v- y![1:5,1:6] r[] o[] x{} b0" ∷
-    "end 61" ∷
-    [])
-unfolding cases_compute
-one_replica_several_primaries_a_from_discarding = refl
-
--- Replicas at the start: 1: yellow actions pass through an exchange; a crash strikes inside a device call.
-one_replica_yellow_actions_crash_in_a_device_call_a :
-    replayed_text (
-    "start 1" ∷
-    "merge 1" ∷
-    "show 1" ∷
-    "request 1 cas \"ab\" absent 53" ∷
-    "split 1" ∷
-    "merge 1" ∷
-    "request 1 cas \"y\" absent 12; put \"k1\" 13; inc \"x\" 6; inc \"z\" 1; inc \"y\" -1; put \"b\" \"\"; del \"a\"; move \"y\" \"z\" 1; move \"x\" \"k1\" 0; del \"k1\"; inc \"b\" 4; inc \"y\" 12; put \"abc\" 8; move \"z\" \"abc\" 8; move \"ab\" \"y\" 9223372036854775807; put \"z\" 68" ∷
-    "order 1" ∷
-    "deliver 1 1" ∷
-    "split 1" ∷
-    "merge 1" ∷
-    "request 1 ? get \"z\"" ∷
-    "order 1" ∷
-    "deliver 1 1" ∷
-    "order 1" ∷
-    "split 1" ∷
-    "merge 1" ∷
-    "gather" ∷
-    "request 1 cas \"x\" 77 93; cas \"z\" 5 82; del \"z\"" ∷
-    "request 1 inc \"x\" 6" ∷
-    "deliver 1 1" ∷
-    "request 1 del \"abc\" ? get \"abc\"" ∷
-    "order 1" ∷
-    "gather" ∷
-    "deliver 1 1" ∷
-    "gather" ∷
-    "gather" ∷
-    "split 1" ∷
-    "merge 1" ∷
-    "gather" ∷
-    "split 1" ∷
-    "merge 1" ∷
-    "gather" ∷
-    "gather" ∷
-    "deliver 1 1" ∷
-    "gather" ∷
-    "split 1" ∷
-    "merge 1" ∷
-    "gather" ∷
-    "fail 1 2" ∷
-    "request 1 put \"y\" 18" ∷
-    "dirty 1 get \"z\"" ∷
-    "request 1 put \"abc\" 12" ∷
-    "gather" ∷
-    "deliver 1 1" ∷
-    "recover 1" ∷
-    "gather" ∷
-    "rounds 2" ∷
-    "merge 1" ∷
-    "request 1 ? get \"y\"" ∷
-    "request 1 move \"a\" \"x\" 5" ∷
-    "request 1 inc \"x\" 6" ∷
-    "gather" ∷
-    "split 1" ∷
-    "merge 1" ∷
-    "order 1" ∷
-    "deliver 1 1" ∷
-    "gather" ∷
-    "gather" ∷
-    "end" ∷
-    [])
-    ≡ written (
-    "= 1" ∷
-    "1 NonPrim - g0 w0 p0@0{1} a0 v- y- r[] o[] x{} b0" ∷
-    "= 2" ∷
-    "1 ExchangeStates c1 g0 w0 p0@0{1} a0 v- y- r[] o[] x{} b0" ∷
-    "= 3" ∷
-    "greens 1 []" ∷
-    "db 1" ∷
-    "= 4" ∷
-    "1 ExchangeStates c1 g0 w0 p0@0{1} a0 v- y- r[] o[] x{} b1" ∷
-    "= 5" ∷
-    "1 NonPrim t1 g0 w0 p0@0{1} a0 v- y- r[] o[] x{} b1" ∷
-    "= 6" ∷
-    "1 ExchangeStates c2 g0 w0 p0@0{1} a0 v- y- r[] o[] x{} b1" ∷
-    "= 7" ∷
-    "1 ExchangeStates c2 g0 w0 p0@0{1} a0 v- y- r[] o[] x{} b2" ∷
-    "= 9" ∷
-    "1 Construct c2 g0 w0 p0@0{1} a1 v2/0{1}{1} y- r[] o[] x{} b2" ∷
-    "= 10" ∷
-    "1 No t2 g0 w0 p0@0{1} a1 v2/0{1}{1} y- r[] o[] x{} b2" ∷
-    "= 11" ∷
-    "1 ExchangeStates c3 g0 w0 p0@0{1} a1 v- y- r[] o[] x{} b2" ∷
-    "= 12" ∷
-    "1 ExchangeStates c3 g0 w0 p0@0{1} a1 v- y- r[] o[] x{} b3" ∷
-    "= 14" ∷
-    "1 Construct c3 g0 w0 p0@0{1} a2 v3/0{1}{1} y- r[] o[] x{} b3" ∷
-    "= 16" ∷
-    "1 Un t3 g0 w0 p0@0{1} a2 v3/0{1}{1} y- r[] o[] x{} b3" ∷
-    "= 17" ∷
-    "1 ExchangeStates c4 g0 w0 p0@0{1} a2 v3/0{1}{1} y- r[] o[] x{} b3" ∷
-    "= 19" ∷
-    "1 ExchangeStates c4 g0 w0 p0@0{1} a2 v3/0{1}{1} y- r[] o[] x{} b4" ∷
-    "= 20" ∷
-    "1 ExchangeStates c4 g0 w0 p0@0{1} a2 v3/0{1}{1} y- r[] o[] x{} b5" ∷
-    "= 21" ∷
-    "1 Construct c4 g0 w0 p0@0{1} a3 v4/0{1}{1} y- r[] o[] x{} b5" ∷
-    "= 22" ∷
-    "1 Construct c4 g0 w0 p0@0{1} a3 v4/0{1}{1} y- r[] o[] x{} b6" ∷
-    "= 25" ∷
-    "made 1:1 cas \"ab\" absent 53" ∷
-    "made 1:2 cas \"y\" absent 12; put \"k1\" 13; inc \"x\" 6; inc \"z\" 1; inc \"y\" -1; put \"b\" \"\"; del \"a\"; move \"y\" \"z\" 1; move \"x\" \"k1\" 0; del \"k1\"; inc \"b\" 4; inc \"y\" 12; put \"abc\" 8; move \"z\" \"abc\" 8; move \"ab\" \"y\" 9223372036854775807; put \"z\" 68" ∷
-    "made 1:3 ? get \"z\"" ∷
-    "made 1:4 cas \"x\" 77 93; cas \"z\" 5 82; del \"z\"" ∷
-    "made 1:5 inc \"x\" 6" ∷
-    "made 1:6 del \"abc\" ? get \"abc\"" ∷
-    "1 RegPrim c4 g0 w0 p1@4{1} a0 v4/0{1}{1} y- r[] o[1:1,1:2,1:3,1:4,1:5,1:6] x{} b0" ∷
-    "= 28" ∷
-    "1 TransPrim t4 g0 w0 p1@4{1} a0 v4/0{1}{1} y?[1:1,1:2,1:3,1:4,1:5,1:6] r[] o[] x{} b0" ∷
-    "= 29" ∷
-    "1 ExchangeStates c5 g0 w0 p1@4{1} a0 v- y![1:1,1:2,1:3,1:4,1:5,1:6] r[] o[] x{} b0" ∷
-    "= 31" ∷
-    "1 NonPrim t5 g0 w0 p1@4{1} a0 v- y![1:1,1:2,1:3,1:4,1:5,1:6] r[] o[] x{} b0" ∷
-    "= 32" ∷
-    "1 ExchangeStates c6 g0 w0 p1@4{1} a0 v- y![1:1,1:2,1:3,1:4,1:5,1:6] r[] o[] x{} b0" ∷
-    "= 35" ∷
-    "1 Construct c6 g0 w0 p1@4{1} a1 v6/1{1}{1} y![1:1,1:2,1:3,1:4,1:5,1:6] r[] o[] x{} b0" ∷
-    "= 37" ∷
-    "1 Un t6 g0 w0 p1@4{1} a1 v6/1{1}{1} y![1:1,1:2,1:3,1:4,1:5,1:6] r[] o[] x{} b0" ∷
-    "= 38" ∷
-    "1 ExchangeStates c7 g0 w0 p1@4{1} a1 v6/1{1}{1} y![1:1,1:2,1:3,1:4,1:5,1:6] r[] o[] x{} b0" ∷
-    "= 41" ∷
-    "1 ExchangeStates c7 g0 w0 p1@4{1} a1 v6/1{1}{1} y![1:1,1:2,1:3,1:4,1:5,1:6] r[] o[] x{} b1" ∷
-    "= 42" ∷
-    "dirty 1 absent" ∷
-    "= 43" ∷
-    "1 ExchangeStates c7 g0 w0 p1@4{1} a1 v6/1{1}{1} y![1:1,1:2,1:3,1:4,1:5,1:6] r[] o[] x{} b2" ∷
-    "= 45" ∷
-    "1 Down" ∷
-    "= 46" ∷
-    "1 NonPrim - g0 w0 p1@4{1} a1 v6/1{1}{1} y![1:1,1:2,1:3,1:4,1:5,1:6] r[] o[] x{} b0" ∷
-    "= 50" ∷
-    "1 ExchangeStates c8 g0 w0 p1@4{1} a1 v6/1{1}{1} y![1:1,1:2,1:3,1:4,1:5,1:6] r[] o[] x{} b0" ∷
-    "= 51" ∷
-    "1 ExchangeStates c8 g0 w0 p1@4{1} a1 v6/1{1}{1} y![1:1,1:2,1:3,1:4,1:5,1:6] r[] o[] x{} b1" ∷
-    "= 52" ∷
-    "1 ExchangeStates c8 g0 w0 p1@4{1} a1 v6/1{1}{1} y![1:1,1:2,1:3,1:4,1:5,1:6] r[] o[] x{} b2" ∷
-    "= 53" ∷
-    "1 ExchangeStates c8 g0 w0 p1@4{1} a1 v6/1{1}{1} y![1:1,1:2,1:3,1:4,1:5,1:6] r[] o[] x{} b3" ∷
-    "= 55" ∷
-    "1 NonPrim t8 g0 w0 p1@4{1} a1 v6/1{1}{1} y![1:1,1:2,1:3,1:4,1:5,1:6] r[] o[] x{} b3" ∷
-    "= 56" ∷
-    "1 ExchangeStates c9 g0 w0 p1@4{1} a1 v6/1{1}{1} y![1:1,1:2,1:3,1:4,1:5,1:6] r[] o[] x{} b3" ∷
-    "= 58" ∷
-    "1 Construct c9 g0 w0 p1@4{1} a2 v9/1{1}{1} y![1:1,1:2,1:3,1:4,1:5,1:6] r[] o[] x{} b3" ∷
-    "end 60" ∷
-    [])
-unfolding cases_compute
-one_replica_yellow_actions_crash_in_a_device_call_a = refl
-
--- A schedule of start and end shows the replicas as they begin.
-only_start_and_end :
-    replayed_text (
-    "start 1 2 3" ∷
-    "end" ∷
-    [])
-    ≡ written (
-    "= 1" ∷
-    "1 NonPrim - g0 w0 p0@0{1,2,3} a0 v- y- r[] o[] x{} b0" ∷
-    "2 NonPrim - g0 w0 p0@0{1,2,3} a0 v- y- r[] o[] x{} b0" ∷
-    "3 NonPrim - g0 w0 p0@0{1,2,3} a0 v- y- r[] o[] x{} b0" ∷
-    "end 1" ∷
-    [])
-unfolding cases_compute
-only_start_and_end = refl
-
--- A replica that heard all but left before installing keeps its record.
-record_kept_by_one_that_cannot_know_a :
-    replayed_text (
-    "start 1 2 3" ∷
-    "merge 1 2 3" ∷
-    "stop 1 0 010800010101" ∷
-    "recover 1" ∷
-    "split 2" ∷
-    "split 3" ∷
-    "merge 1 2 3" ∷
-    "rounds 1" ∷
-    "gather" ∷
-    "split 3" ∷
-    "merge 3" ∷
-    "end" ∷
-    [])
-    ≡ written (
-    "= 1" ∷
-    "1 NonPrim - g0 w0 p0@0{1,2,3} a0 v- y- r[] o[] x{} b0" ∷
-    "2 NonPrim - g0 w0 p0@0{1,2,3} a0 v- y- r[] o[] x{} b0" ∷
-    "3 NonPrim - g0 w0 p0@0{1,2,3} a0 v- y- r[] o[] x{} b0" ∷
-    "= 2" ∷
-    "1 ExchangeStates c1 g0 w0 p0@0{1,2,3} a0 v- y- r[] o[] x{} b0" ∷
-    "2 ExchangeStates c1 g0 w0 p0@0{1,2,3} a0 v- y- r[] o[] x{} b0" ∷
-    "3 ExchangeStates c1 g0 w0 p0@0{1,2,3} a0 v- y- r[] o[] x{} b0" ∷
-    "= 3" ∷
-    "1 Down" ∷
-    "= 4" ∷
-    "1 NonPrim - g0 w0 p0@0{1,2,3} a0 v- y- r[] o[] x{} b0" ∷
-    "= 5" ∷
-    "2 NonPrim t1 g0 w0 p0@0{1,2,3} a0 v- y- r[] o[] x{} b0" ∷
-    "= 6" ∷
-    "3 NonPrim t1 g0 w0 p0@0{1,2,3} a0 v- y- r[] o[] x{} b0" ∷
-    "= 7" ∷
-    "1 ExchangeStates c2 g0 w0 p0@0{1,2,3} a0 v- y- r[] o[] x{} b0" ∷
-    "2 ExchangeStates c2 g0 w0 p0@0{1,2,3} a0 v- y- r[] o[] x{} b0" ∷
-    "3 ExchangeStates c2 g0 w0 p0@0{1,2,3} a0 v- y- r[] o[] x{} b0" ∷
-    "= 9" ∷
-    "1 Construct c2 g0 w0 p0@0{1,2,3} a1 v2/0{1,2,3}{1} y- r[] o[] x{} b0" ∷
-    "= 10" ∷
-    "2 Construct c2 g0 w0 p0@0{1,2,3} a1 v2/0{1,2,3}{2} y- r[] o[] x{} b0" ∷
-    "= 11" ∷
-    "3 Construct c2 g0 w0 p0@0{1,2,3} a1 v2/0{1,2,3}{3} y- r[] o[] x{} b0" ∷
-    "= 13" ∷
-    "3 Un t2 g0 w0 p0@0{1,2,3} a1 v2/0{1,2,3}{3} y- r[] o[] x{} b0" ∷
-    "= 14" ∷
-    "3 ExchangeStates c3 g0 w0 p0@0{1,2,3} a1 v2/0{1,2,3}{3} y- r[] o[] x{} b0" ∷
-    "end 14" ∷
-    [])
-unfolding cases_compute
-record_kept_by_one_that_cannot_know_a = refl
-
--- A replica that heard all but left before installing keeps its record.
-record_kept_by_one_that_cannot_know_b :
+-- The line of a joiner is the place of its join.
+line_of_a_joiner_a :
     replayed_text (
     "start 1 2 3 4" ∷
     "merge 1 2 3 4" ∷
     "rounds 2" ∷
-    "request 1 del \"a\"; move \"a\" \"y\" 0; inc \"y\" 2; inc \"abc\" 10 ? count" ∷
-    "split 1 2 3 4" ∷
-    "merge 1 2 3 4" ∷
+    "join 3 5" ∷
+    "join 4 6" ∷
     "rounds 2" ∷
-    "gather" ∷
+    "leave 1 6" ∷
+    "split 1 2 3" ∷
+    "split 4" ∷
+    "merge 4" ∷
+    "split 4" ∷
+    "merge 1 2 3 4" ∷
+    "request 2 need \"k1\" -2 ? count" ∷
+    "request 4 put \"b\" \"TTTTTTTTTTTTTTTTTTTTTTTTTTTTTTTTTTTTTTTTTTTTTTTTTTTTTTTTTTTTTTTTTTTTTTTTTTTTTTTTTTTTTTTTTTTTTTTTTTTTTTTTTTTTTTTTTTTTTTTTTTTTTTTTTTTTTTTTTTTTTTTTTTTTTTTTTTTTTTTTTTTTTTTTTTTTTTTTTTTTTTTTTTTTTTTTTTTTTTTTTTTTTTTTTTTTTTTTTTTTTTTTTTTTTTTTTTTTTTTTTTTTTTTTTTTTTTT\"" ∷
+    "request 3 put \"ab\" 57 ? get \"y\"" ∷
     "split 1 2 3 4" ∷
     "merge 1 2 3 4" ∷
+    "rounds 3" ∷
+    "rounds 1" ∷
     "end" ∷
     [])
     ≡ written (
@@ -677,87 +56,628 @@ record_kept_by_one_that_cannot_know_b :
     "= 12" ∷
     "4 RegPrim c1 g0 w0 p1@1{1,2,3,4} a0 v1/0{1,2,3,4}{4} y- r[] o[] x{} b0" ∷
     "= 13" ∷
-    "made 1:1 del \"a\"; move \"a\" \"y\" 0; inc \"y\" 2; inc \"abc\" 10 ? count" ∷
-    "1 RegPrim c1 g0 w0 p1@1{1,2,3,4} a0 v1/0{1,2,3,4}{1} y- r[] o[1:1] x{} b0" ∷
+    "made 3:1 join 5" ∷
+    "3 RegPrim c1 g0 w0 p1@1{1,2,3,4} a0 v1/0{1,2,3,4}{3} y- r[] o[3:1] x{} b0" ∷
     "= 14" ∷
-    "1 TransPrim t1 g0 w0 p1@1{1,2,3,4} a0 v1/0{1,2,3,4}{1} y- r[] o[1:1] x{} b0" ∷
-    "2 TransPrim t1 g0 w0 p1@1{1,2,3,4} a0 v1/0{1,2,3,4}{2} y- r[] o[] x{} b0" ∷
-    "3 TransPrim t1 g0 w0 p1@1{1,2,3,4} a0 v1/0{1,2,3,4}{3} y- r[] o[] x{} b0" ∷
-    "4 TransPrim t1 g0 w0 p1@1{1,2,3,4} a0 v1/0{1,2,3,4}{4} y- r[] o[] x{} b0" ∷
-    "= 15" ∷
-    "1 ExchangeStates c2 g0 w0 p1@1{1,2,3,4} a0 v- y![] r[1:1] o[] x{} b0" ∷
-    "2 ExchangeStates c2 g0 w0 p1@1{1,2,3,4} a0 v- y![] r[] o[] x{} b0" ∷
-    "3 ExchangeStates c2 g0 w0 p1@1{1,2,3,4} a0 v- y![] r[] o[] x{} b0" ∷
-    "4 ExchangeStates c2 g0 w0 p1@1{1,2,3,4} a0 v- y![] r[] o[] x{} b0" ∷
+    "made 4:1 join 6" ∷
+    "4 RegPrim c1 g0 w0 p1@1{1,2,3,4} a0 v1/0{1,2,3,4}{4} y- r[] o[4:1] x{} b0" ∷
+    "= 16" ∷
+    "order 1 3:1" ∷
+    "order 2 4:1" ∷
+    "1 RegPrim c1 g2 w0 p1@1{1,2,3,4} a0 v1/0{1,2,3,4}{1} y- r[] o[] x{} b0" ∷
     "= 17" ∷
-    "1 ExchangeActions c2 g0 w0 p1@1{1,2,3,4} a0 v- y![] r[1:1] o[] x{} b0" ∷
+    "2 RegPrim c1 g2 w0 p1@1{1,2,3,4} a0 v1/0{1,2,3,4}{2} y- r[] o[] x{} b0" ∷
     "= 18" ∷
-    "2 ExchangeActions c2 g0 w0 p1@1{1,2,3,4} a0 v- y![] r[] o[] x{} b0" ∷
+    "3 RegPrim c1 g2 w0 p1@1{1,2,3,4} a0 v1/0{1,2,3,4}{3} y- r[] o[] x{} b0" ∷
+    "reply 3:1 done" ∷
     "= 19" ∷
-    "3 ExchangeActions c2 g0 w0 p1@1{1,2,3,4} a0 v- y![] r[] o[] x{} b0" ∷
-    "= 20" ∷
-    "4 ExchangeActions c2 g0 w0 p1@1{1,2,3,4} a0 v- y![] r[] o[] x{} b0" ∷
+    "4 RegPrim c1 g2 w0 p1@1{1,2,3,4} a0 v1/0{1,2,3,4}{4} y- r[] o[] x{} b0" ∷
+    "reply 4:1 done" ∷
+    "= 21" ∷
+    "made 1:1 leave 6" ∷
+    "1 RegPrim c1 g2 w0 p1@1{1,2,3,4} a0 v1/0{1,2,3,4}{1} y- r[] o[1:1] x{} b0" ∷
     "= 22" ∷
-    "1 Construct c2 g0 w0 p1@1{1,2,3,4} a1 v2/1{1,2,3,4}{1} y![] r[1:1] o[] x{} b0" ∷
+    "1 TransPrim t1 g2 w0 p1@1{1,2,3,4} a0 v1/0{1,2,3,4}{1} y- r[] o[1:1] x{} b0" ∷
+    "2 TransPrim t1 g2 w0 p1@1{1,2,3,4} a0 v1/0{1,2,3,4}{2} y- r[] o[] x{} b0" ∷
+    "3 TransPrim t1 g2 w0 p1@1{1,2,3,4} a0 v1/0{1,2,3,4}{3} y- r[] o[] x{} b0" ∷
     "= 23" ∷
-    "2 Construct c2 g0 w0 p1@1{1,2,3,4} a1 v2/1{1,2,3,4}{2} y![] r[1:1] o[] x{} b0" ∷
+    "4 TransPrim t1 g2 w0 p1@1{1,2,3,4} a0 v1/0{1,2,3,4}{4} y- r[] o[] x{} b0" ∷
     "= 24" ∷
-    "3 Construct c2 g0 w0 p1@1{1,2,3,4} a1 v2/1{1,2,3,4}{3} y![] r[1:1] o[] x{} b0" ∷
+    "4 ExchangeStates c2 g2 w0 p1@1{1,2,3,4} a0 v- y![] r[] o[] x{} b0" ∷
     "= 25" ∷
-    "4 Construct c2 g0 w0 p1@1{1,2,3,4} a1 v2/1{1,2,3,4}{4} y![] r[1:1] o[] x{} b0" ∷
+    "4 NonPrim t2 g2 w0 p1@1{1,2,3,4} a0 v- y![] r[] o[] x{} b0" ∷
+    "= 26" ∷
+    "1 ExchangeStates c3 g2 w0 p1@1{1,2,3,4} a0 v- y![] r[1:1] o[] x{} b0" ∷
+    "2 ExchangeStates c3 g2 w0 p1@1{1,2,3,4} a0 v- y![] r[] o[] x{} b0" ∷
+    "3 ExchangeStates c3 g2 w0 p1@1{1,2,3,4} a0 v- y![] r[] o[] x{} b0" ∷
+    "4 ExchangeStates c3 g2 w0 p1@1{1,2,3,4} a0 v- y![] r[] o[] x{} b0" ∷
     "= 27" ∷
-    "1 Un t2 g0 w0 p1@1{1,2,3,4} a1 v2/1{1,2,3,4}{1} y![] r[1:1] o[] x{} b0" ∷
-    "2 Un t2 g0 w0 p1@1{1,2,3,4} a1 v2/1{1,2,3,4}{2} y![] r[1:1] o[] x{} b0" ∷
-    "3 Un t2 g0 w0 p1@1{1,2,3,4} a1 v2/1{1,2,3,4}{3} y![] r[1:1] o[] x{} b0" ∷
-    "4 Un t2 g0 w0 p1@1{1,2,3,4} a1 v2/1{1,2,3,4}{4} y![] r[1:1] o[] x{} b0" ∷
+    "2 ExchangeStates c3 g2 w0 p1@1{1,2,3,4} a0 v- y![] r[] o[] x{} b1" ∷
     "= 28" ∷
-    "1 ExchangeStates c3 g0 w0 p1@1{1,2,3,4} a1 v2/1{1,2,3,4}{1} y![] r[1:1] o[] x{} b0" ∷
-    "2 ExchangeStates c3 g0 w0 p1@1{1,2,3,4} a1 v2/1{1,2,3,4}{2} y![] r[1:1] o[] x{} b0" ∷
-    "3 ExchangeStates c3 g0 w0 p1@1{1,2,3,4} a1 v2/1{1,2,3,4}{3} y![] r[1:1] o[] x{} b0" ∷
-    "4 ExchangeStates c3 g0 w0 p1@1{1,2,3,4} a1 v2/1{1,2,3,4}{4} y![] r[1:1] o[] x{} b0" ∷
-    "end 28" ∷
+    "4 ExchangeStates c3 g2 w0 p1@1{1,2,3,4} a0 v- y![] r[] o[] x{} b1" ∷
+    "= 29" ∷
+    "3 ExchangeStates c3 g2 w0 p1@1{1,2,3,4} a0 v- y![] r[] o[] x{} b1" ∷
+    "= 30" ∷
+    "1 NonPrim t3 g2 w0 p1@1{1,2,3,4} a0 v- y![] r[1:1] o[] x{} b0" ∷
+    "2 NonPrim t3 g2 w0 p1@1{1,2,3,4} a0 v- y![] r[] o[] x{} b1" ∷
+    "3 NonPrim t3 g2 w0 p1@1{1,2,3,4} a0 v- y![] r[] o[] x{} b1" ∷
+    "4 NonPrim t3 g2 w0 p1@1{1,2,3,4} a0 v- y![] r[] o[] x{} b1" ∷
+    "= 31" ∷
+    "1 ExchangeStates c4 g2 w0 p1@1{1,2,3,4} a0 v- y![] r[1:1] o[] x{} b0" ∷
+    "2 ExchangeStates c4 g2 w0 p1@1{1,2,3,4} a0 v- y![] r[] o[] x{} b1" ∷
+    "3 ExchangeStates c4 g2 w0 p1@1{1,2,3,4} a0 v- y![] r[] o[] x{} b1" ∷
+    "4 ExchangeStates c4 g2 w0 p1@1{1,2,3,4} a0 v- y![] r[] o[] x{} b1" ∷
+    "= 33" ∷
+    "1 ExchangeActions c4 g2 w0 p1@1{1,2,3,4} a0 v- y![] r[1:1] o[] x{} b0" ∷
+    "= 34" ∷
+    "2 ExchangeActions c4 g2 w0 p1@1{1,2,3,4} a0 v- y![] r[] o[] x{} b1" ∷
+    "= 35" ∷
+    "3 ExchangeActions c4 g2 w0 p1@1{1,2,3,4} a0 v- y![] r[] o[] x{} b1" ∷
+    "= 36" ∷
+    "4 ExchangeActions c4 g2 w0 p1@1{1,2,3,4} a0 v- y![] r[] o[] x{} b1" ∷
+    "= 38" ∷
+    "1 Construct c4 g2 w0 p1@1{1,2,3,4} a1 v4/1{1,2,3,4}{1} y![] r[1:1] o[] x{} b0" ∷
+    "= 39" ∷
+    "2 Construct c4 g2 w0 p1@1{1,2,3,4} a1 v4/1{1,2,3,4}{2} y![] r[1:1] o[] x{} b1" ∷
+    "= 40" ∷
+    "3 Construct c4 g2 w0 p1@1{1,2,3,4} a1 v4/1{1,2,3,4}{3} y![] r[1:1] o[] x{} b1" ∷
+    "= 41" ∷
+    "4 Construct c4 g2 w0 p1@1{1,2,3,4} a1 v4/1{1,2,3,4}{4} y![] r[1:1] o[] x{} b1" ∷
+    "= 43" ∷
+    "order 3 1:1" ∷
+    "1 RegPrim c4 g3 w0 p2@4{1,2,3,4} a0 v4/1{1,2,3,4}{1} y- r[] o[] x{6} b0" ∷
+    "reply 1:1 done" ∷
+    "= 44" ∷
+    "made 2:1 need \"k1\" -2 ? count" ∷
+    "2 RegPrim c4 g3 w0 p2@4{1,2,3,4} a0 v4/1{1,2,3,4}{2} y- r[] o[2:1] x{6} b0" ∷
+    "= 45" ∷
+    "made 3:2 put \"ab\" 57 ? get \"y\"" ∷
+    "3 RegPrim c4 g3 w0 p2@4{1,2,3,4} a0 v4/1{1,2,3,4}{3} y- r[] o[3:2] x{6} b0" ∷
+    "= 46" ∷
+    "made 4:2 put \"b\" \"TTTTTTTTTTTTTTTTTTTTTTTTTTTTTTTTTTTTTTTTTTTTTTTTTTTTTTTTTTTTTTTTTTTTTTTTTTTTTTTTTTTTTTTTTTTTTTTTTTTTTTTTTTTTTTTTTTTTTTTTTTTTTTTTTTTTTTTTTTTTTTTTTTTTTTTTTTTTTTTTTTTTTTTTTTTTTTTTTTTTTTTTTTTTTTTTTTTTTTTTTTTTTTTTTTTTTTTTTTTTTTTTTTTTTTTTTTTTTTTTTTTTTTTTTTTTTTT\"" ∷
+    "4 RegPrim c4 g3 w0 p2@4{1,2,3,4} a0 v4/1{1,2,3,4}{4} y- r[] o[4:2] x{6} b0" ∷
+    "= 48" ∷
+    "order 4 2:1" ∷
+    "order 5 3:2" ∷
+    "order 6 4:2" ∷
+    "1 RegPrim c4 g6 w1 p2@4{1,2,3,4} a0 v4/1{1,2,3,4}{1} y- r[] o[] x{6} b0" ∷
+    "= 49" ∷
+    "2 RegPrim c4 g6 w1 p2@4{1,2,3,4} a0 v4/1{1,2,3,4}{2} y- r[] o[] x{6} b0" ∷
+    "reply 2:1 aborted 1 ? count 0" ∷
+    "= 50" ∷
+    "3 RegPrim c4 g6 w1 p2@4{1,2,3,4} a0 v4/1{1,2,3,4}{3} y- r[] o[] x{6} b0" ∷
+    "reply 3:2 done ? absent" ∷
+    "= 51" ∷
+    "4 RegPrim c4 g6 w1 p2@4{1,2,3,4} a0 v4/1{1,2,3,4}{4} y- r[] o[] x{6} b0" ∷
+    "reply 4:2 done" ∷
+    "end 51" ∷
     [])
 unfolding cases_compute
-record_kept_by_one_that_cannot_know_b = refl
+line_of_a_joiner_a = refl
 
--- A replica that heard all but left before installing keeps its record.
-record_kept_by_one_that_cannot_know_c :
+-- The line of a joiner is the place of its join.
+line_of_a_joiner_b :
     replayed_text (
-    "start 1 2 3" ∷
-    "merge 1 2 3" ∷
-    "gather" ∷
-    "deliver 2 3" ∷
-    "deliver 3 3" ∷
-    "deliver 1 3" ∷
-    "gather" ∷
-    "split 1 2 3" ∷
-    "merge 1 2 3" ∷
+    "start 13 26" ∷
+    "merge 13 26" ∷
+    "join 26 1" ∷
+    "rounds 2" ∷
+    "rounds 2" ∷
+    "request 26 put \"z\" 81" ∷
+    "join 13 3" ∷
+    "rounds 1" ∷
     "end" ∷
     [])
     ≡ written (
     "= 1" ∷
-    "1 NonPrim - g0 w0 p0@0{1,2,3} a0 v- y- r[] o[] x{} b0" ∷
-    "2 NonPrim - g0 w0 p0@0{1,2,3} a0 v- y- r[] o[] x{} b0" ∷
-    "3 NonPrim - g0 w0 p0@0{1,2,3} a0 v- y- r[] o[] x{} b0" ∷
+    "13 NonPrim - g0 w0 p0@0{13,26} a0 v- y- r[] o[] x{} b0" ∷
+    "26 NonPrim - g0 w0 p0@0{13,26} a0 v- y- r[] o[] x{} b0" ∷
     "= 2" ∷
-    "1 ExchangeStates c1 g0 w0 p0@0{1,2,3} a0 v- y- r[] o[] x{} b0" ∷
-    "2 ExchangeStates c1 g0 w0 p0@0{1,2,3} a0 v- y- r[] o[] x{} b0" ∷
-    "3 ExchangeStates c1 g0 w0 p0@0{1,2,3} a0 v- y- r[] o[] x{} b0" ∷
-    "= 4" ∷
-    "2 Construct c1 g0 w0 p0@0{1,2,3} a1 v1/0{1,2,3}{2} y- r[] o[] x{} b0" ∷
+    "13 ExchangeStates c1 g0 w0 p0@0{13,26} a0 v- y- r[] o[] x{} b0" ∷
+    "26 ExchangeStates c1 g0 w0 p0@0{13,26} a0 v- y- r[] o[] x{} b0" ∷
+    "= 3" ∷
+    "26 ExchangeStates c1 g0 w0 p0@0{13,26} a0 v- y- r[] o[] x{} b1" ∷
     "= 5" ∷
-    "3 Construct c1 g0 w0 p0@0{1,2,3} a1 v1/0{1,2,3}{3} y- r[] o[] x{} b0" ∷
+    "13 Construct c1 g0 w0 p0@0{13,26} a1 v1/0{13,26}{13} y- r[] o[] x{} b0" ∷
     "= 6" ∷
-    "1 Construct c1 g0 w0 p0@0{1,2,3} a1 v1/0{1,2,3}{1} y- r[] o[] x{} b0" ∷
+    "26 Construct c1 g0 w0 p0@0{13,26} a1 v1/0{13,26}{26} y- r[] o[] x{} b1" ∷
     "= 8" ∷
-    "1 Un t1 g0 w0 p0@0{1,2,3} a1 v1/0{1,2,3}{1} y- r[] o[] x{} b0" ∷
-    "2 Un t1 g0 w0 p0@0{1,2,3} a1 v1/0{1,2,3}{2} y- r[] o[] x{} b0" ∷
-    "3 Un t1 g0 w0 p0@0{1,2,3} a1 v1/0{1,2,3}{3} y- r[] o[] x{} b0" ∷
+    "13 RegPrim c1 g0 w0 p1@1{13,26} a0 v1/0{13,26}{13} y- r[] o[] x{} b0" ∷
     "= 9" ∷
-    "1 ExchangeStates c2 g0 w0 p0@0{1,2,3} a1 v1/0{1,2,3}{1} y- r[] o[] x{} b0" ∷
-    "2 ExchangeStates c2 g0 w0 p0@0{1,2,3} a1 v1/0{1,2,3}{2} y- r[] o[] x{} b0" ∷
-    "3 ExchangeStates c2 g0 w0 p0@0{1,2,3} a1 v1/0{1,2,3}{3} y- r[] o[] x{} b0" ∷
-    "end 9" ∷
+    "made 26:1 join 1" ∷
+    "26 RegPrim c1 g0 w0 p1@1{13,26} a0 v1/0{13,26}{26} y- r[] o[26:1] x{} b0" ∷
+    "= 11" ∷
+    "order 1 26:1" ∷
+    "13 RegPrim c1 g1 w0 p1@1{13,26} a0 v1/0{13,26}{13} y- r[] o[] x{} b0" ∷
+    "= 12" ∷
+    "26 RegPrim c1 g1 w0 p1@1{13,26} a0 v1/0{13,26}{26} y- r[] o[] x{} b0" ∷
+    "reply 26:1 done" ∷
+    "= 14" ∷
+    "made 26:2 put \"z\" 81" ∷
+    "26 RegPrim c1 g1 w0 p1@1{13,26} a0 v1/0{13,26}{26} y- r[] o[26:2] x{} b0" ∷
+    "= 15" ∷
+    "made 13:1 join 3" ∷
+    "13 RegPrim c1 g1 w0 p1@1{13,26} a0 v1/0{13,26}{13} y- r[] o[13:1] x{} b0" ∷
+    "= 17" ∷
+    "order 2 13:1" ∷
+    "order 3 26:2" ∷
+    "13 RegPrim c1 g3 w1 p1@1{13,26} a0 v1/0{13,26}{13} y- r[] o[] x{} b0" ∷
+    "reply 13:1 done" ∷
+    "= 18" ∷
+    "26 RegPrim c1 g3 w1 p1@1{13,26} a0 v1/0{13,26}{26} y- r[] o[] x{} b0" ∷
+    "reply 26:2 done" ∷
+    "end 18" ∷
     [])
 unfolding cases_compute
-record_kept_by_one_that_cannot_know_c = refl
+line_of_a_joiner_b = refl
+
+-- Replicas at the start: 12: a primary is split.
+many_replicas_primary_split_a :
+    replayed_text (
+    "start 1 2 3 4 5 6 7 8 9 10 11 12" ∷
+    "merge 1 2 3 4 5 6 7 8 9 10 11 12" ∷
+    "rounds 2" ∷
+    "request 6 inc \"x\" 1" ∷
+    "request 1 move \"z\" \"y\" 0" ∷
+    "split 1 2 3 4 5 6 7 8 9 10 11 12" ∷
+    "merge 1 2 3 4 5 6 7 8 9 10 11 12" ∷
+    "request 6 inc \"y\" -9223372036854775808 ? get \"b\"" ∷
+    "rounds 2" ∷
+    "request 11 inc \"abc\" 10" ∷
+    "order 6" ∷
+    "gather" ∷
+    "gather" ∷
+    "deliver 11 1" ∷
+    "order 11" ∷
+    "rounds 3" ∷
+    "gather" ∷
+    "request 2 del \"ab\"" ∷
+    "rounds 1" ∷
+    "gather" ∷
+    "request 12 inc \"y\" 9223372036854775807" ∷
+    "request 5 inc \"b\" 4" ∷
+    "rounds 2" ∷
+    "split 2 3 4 6 10 12" ∷
+    "split 1 5 7 8 9 11" ∷
+    "merge 2 3 4 6 10 12" ∷
+    "merge 1 5 7 8 9 11" ∷
+    "request 2 inc \"a\" 7; inc \"b\" 2; inc \"z\" 0" ∷
+    "request 12 del \"x\"" ∷
+    "end" ∷
+    [])
+    ≡ written (
+    "= 1" ∷
+    "1 NonPrim - g0 w0 p0@0{1,2,3,4,5,6,7,8,9,10,11,12} a0 v- y- r[] o[] x{} b0" ∷
+    "2 NonPrim - g0 w0 p0@0{1,2,3,4,5,6,7,8,9,10,11,12} a0 v- y- r[] o[] x{} b0" ∷
+    "3 NonPrim - g0 w0 p0@0{1,2,3,4,5,6,7,8,9,10,11,12} a0 v- y- r[] o[] x{} b0" ∷
+    "4 NonPrim - g0 w0 p0@0{1,2,3,4,5,6,7,8,9,10,11,12} a0 v- y- r[] o[] x{} b0" ∷
+    "5 NonPrim - g0 w0 p0@0{1,2,3,4,5,6,7,8,9,10,11,12} a0 v- y- r[] o[] x{} b0" ∷
+    "6 NonPrim - g0 w0 p0@0{1,2,3,4,5,6,7,8,9,10,11,12} a0 v- y- r[] o[] x{} b0" ∷
+    "7 NonPrim - g0 w0 p0@0{1,2,3,4,5,6,7,8,9,10,11,12} a0 v- y- r[] o[] x{} b0" ∷
+    "8 NonPrim - g0 w0 p0@0{1,2,3,4,5,6,7,8,9,10,11,12} a0 v- y- r[] o[] x{} b0" ∷
+    "9 NonPrim - g0 w0 p0@0{1,2,3,4,5,6,7,8,9,10,11,12} a0 v- y- r[] o[] x{} b0" ∷
+    "10 NonPrim - g0 w0 p0@0{1,2,3,4,5,6,7,8,9,10,11,12} a0 v- y- r[] o[] x{} b0" ∷
+    "11 NonPrim - g0 w0 p0@0{1,2,3,4,5,6,7,8,9,10,11,12} a0 v- y- r[] o[] x{} b0" ∷
+    "12 NonPrim - g0 w0 p0@0{1,2,3,4,5,6,7,8,9,10,11,12} a0 v- y- r[] o[] x{} b0" ∷
+    "= 2" ∷
+    "1 ExchangeStates c1 g0 w0 p0@0{1,2,3,4,5,6,7,8,9,10,11,12} a0 v- y- r[] o[] x{} b0" ∷
+    "2 ExchangeStates c1 g0 w0 p0@0{1,2,3,4,5,6,7,8,9,10,11,12} a0 v- y- r[] o[] x{} b0" ∷
+    "3 ExchangeStates c1 g0 w0 p0@0{1,2,3,4,5,6,7,8,9,10,11,12} a0 v- y- r[] o[] x{} b0" ∷
+    "4 ExchangeStates c1 g0 w0 p0@0{1,2,3,4,5,6,7,8,9,10,11,12} a0 v- y- r[] o[] x{} b0" ∷
+    "5 ExchangeStates c1 g0 w0 p0@0{1,2,3,4,5,6,7,8,9,10,11,12} a0 v- y- r[] o[] x{} b0" ∷
+    "6 ExchangeStates c1 g0 w0 p0@0{1,2,3,4,5,6,7,8,9,10,11,12} a0 v- y- r[] o[] x{} b0" ∷
+    "7 ExchangeStates c1 g0 w0 p0@0{1,2,3,4,5,6,7,8,9,10,11,12} a0 v- y- r[] o[] x{} b0" ∷
+    "8 ExchangeStates c1 g0 w0 p0@0{1,2,3,4,5,6,7,8,9,10,11,12} a0 v- y- r[] o[] x{} b0" ∷
+    "9 ExchangeStates c1 g0 w0 p0@0{1,2,3,4,5,6,7,8,9,10,11,12} a0 v- y- r[] o[] x{} b0" ∷
+    "10 ExchangeStates c1 g0 w0 p0@0{1,2,3,4,5,6,7,8,9,10,11,12} a0 v- y- r[] o[] x{} b0" ∷
+    "11 ExchangeStates c1 g0 w0 p0@0{1,2,3,4,5,6,7,8,9,10,11,12} a0 v- y- r[] o[] x{} b0" ∷
+    "12 ExchangeStates c1 g0 w0 p0@0{1,2,3,4,5,6,7,8,9,10,11,12} a0 v- y- r[] o[] x{} b0" ∷
+    "= 4" ∷
+    "1 Construct c1 g0 w0 p0@0{1,2,3,4,5,6,7,8,9,10,11,12} a1 v1/0{1,2,3,4,5,6,7,8,9,10,11,12}{1} y- r[] o[] x{} b0" ∷
+    "= 5" ∷
+    "2 Construct c1 g0 w0 p0@0{1,2,3,4,5,6,7,8,9,10,11,12} a1 v1/0{1,2,3,4,5,6,7,8,9,10,11,12}{2} y- r[] o[] x{} b0" ∷
+    "= 6" ∷
+    "3 Construct c1 g0 w0 p0@0{1,2,3,4,5,6,7,8,9,10,11,12} a1 v1/0{1,2,3,4,5,6,7,8,9,10,11,12}{3} y- r[] o[] x{} b0" ∷
+    "= 7" ∷
+    "4 Construct c1 g0 w0 p0@0{1,2,3,4,5,6,7,8,9,10,11,12} a1 v1/0{1,2,3,4,5,6,7,8,9,10,11,12}{4} y- r[] o[] x{} b0" ∷
+    "= 8" ∷
+    "5 Construct c1 g0 w0 p0@0{1,2,3,4,5,6,7,8,9,10,11,12} a1 v1/0{1,2,3,4,5,6,7,8,9,10,11,12}{5} y- r[] o[] x{} b0" ∷
+    "= 9" ∷
+    "6 Construct c1 g0 w0 p0@0{1,2,3,4,5,6,7,8,9,10,11,12} a1 v1/0{1,2,3,4,5,6,7,8,9,10,11,12}{6} y- r[] o[] x{} b0" ∷
+    "= 10" ∷
+    "7 Construct c1 g0 w0 p0@0{1,2,3,4,5,6,7,8,9,10,11,12} a1 v1/0{1,2,3,4,5,6,7,8,9,10,11,12}{7} y- r[] o[] x{} b0" ∷
+    "= 11" ∷
+    "8 Construct c1 g0 w0 p0@0{1,2,3,4,5,6,7,8,9,10,11,12} a1 v1/0{1,2,3,4,5,6,7,8,9,10,11,12}{8} y- r[] o[] x{} b0" ∷
+    "= 12" ∷
+    "9 Construct c1 g0 w0 p0@0{1,2,3,4,5,6,7,8,9,10,11,12} a1 v1/0{1,2,3,4,5,6,7,8,9,10,11,12}{9} y- r[] o[] x{} b0" ∷
+    "= 13" ∷
+    "10 Construct c1 g0 w0 p0@0{1,2,3,4,5,6,7,8,9,10,11,12} a1 v1/0{1,2,3,4,5,6,7,8,9,10,11,12}{10} y- r[] o[] x{} b0" ∷
+    "= 14" ∷
+    "11 Construct c1 g0 w0 p0@0{1,2,3,4,5,6,7,8,9,10,11,12} a1 v1/0{1,2,3,4,5,6,7,8,9,10,11,12}{11} y- r[] o[] x{} b0" ∷
+    "= 15" ∷
+    "12 Construct c1 g0 w0 p0@0{1,2,3,4,5,6,7,8,9,10,11,12} a1 v1/0{1,2,3,4,5,6,7,8,9,10,11,12}{12} y- r[] o[] x{} b0" ∷
+    "= 17" ∷
+    "1 RegPrim c1 g0 w0 p1@1{1,2,3,4,5,6,7,8,9,10,11,12} a0 v1/0{1,2,3,4,5,6,7,8,9,10,11,12}{1} y- r[] o[] x{} b0" ∷
+    "= 18" ∷
+    "2 RegPrim c1 g0 w0 p1@1{1,2,3,4,5,6,7,8,9,10,11,12} a0 v1/0{1,2,3,4,5,6,7,8,9,10,11,12}{2} y- r[] o[] x{} b0" ∷
+    "= 19" ∷
+    "3 RegPrim c1 g0 w0 p1@1{1,2,3,4,5,6,7,8,9,10,11,12} a0 v1/0{1,2,3,4,5,6,7,8,9,10,11,12}{3} y- r[] o[] x{} b0" ∷
+    "= 20" ∷
+    "4 RegPrim c1 g0 w0 p1@1{1,2,3,4,5,6,7,8,9,10,11,12} a0 v1/0{1,2,3,4,5,6,7,8,9,10,11,12}{4} y- r[] o[] x{} b0" ∷
+    "= 21" ∷
+    "5 RegPrim c1 g0 w0 p1@1{1,2,3,4,5,6,7,8,9,10,11,12} a0 v1/0{1,2,3,4,5,6,7,8,9,10,11,12}{5} y- r[] o[] x{} b0" ∷
+    "= 22" ∷
+    "6 RegPrim c1 g0 w0 p1@1{1,2,3,4,5,6,7,8,9,10,11,12} a0 v1/0{1,2,3,4,5,6,7,8,9,10,11,12}{6} y- r[] o[] x{} b0" ∷
+    "= 23" ∷
+    "7 RegPrim c1 g0 w0 p1@1{1,2,3,4,5,6,7,8,9,10,11,12} a0 v1/0{1,2,3,4,5,6,7,8,9,10,11,12}{7} y- r[] o[] x{} b0" ∷
+    "= 24" ∷
+    "8 RegPrim c1 g0 w0 p1@1{1,2,3,4,5,6,7,8,9,10,11,12} a0 v1/0{1,2,3,4,5,6,7,8,9,10,11,12}{8} y- r[] o[] x{} b0" ∷
+    "= 25" ∷
+    "9 RegPrim c1 g0 w0 p1@1{1,2,3,4,5,6,7,8,9,10,11,12} a0 v1/0{1,2,3,4,5,6,7,8,9,10,11,12}{9} y- r[] o[] x{} b0" ∷
+    "= 26" ∷
+    "10 RegPrim c1 g0 w0 p1@1{1,2,3,4,5,6,7,8,9,10,11,12} a0 v1/0{1,2,3,4,5,6,7,8,9,10,11,12}{10} y- r[] o[] x{} b0" ∷
+    "= 27" ∷
+    "11 RegPrim c1 g0 w0 p1@1{1,2,3,4,5,6,7,8,9,10,11,12} a0 v1/0{1,2,3,4,5,6,7,8,9,10,11,12}{11} y- r[] o[] x{} b0" ∷
+    "= 28" ∷
+    "12 RegPrim c1 g0 w0 p1@1{1,2,3,4,5,6,7,8,9,10,11,12} a0 v1/0{1,2,3,4,5,6,7,8,9,10,11,12}{12} y- r[] o[] x{} b0" ∷
+    "= 29" ∷
+    "made 6:1 inc \"x\" 1" ∷
+    "6 RegPrim c1 g0 w0 p1@1{1,2,3,4,5,6,7,8,9,10,11,12} a0 v1/0{1,2,3,4,5,6,7,8,9,10,11,12}{6} y- r[] o[6:1] x{} b0" ∷
+    "= 30" ∷
+    "made 1:1 move \"z\" \"y\" 0" ∷
+    "1 RegPrim c1 g0 w0 p1@1{1,2,3,4,5,6,7,8,9,10,11,12} a0 v1/0{1,2,3,4,5,6,7,8,9,10,11,12}{1} y- r[] o[1:1] x{} b0" ∷
+    "= 31" ∷
+    "1 TransPrim t1 g0 w0 p1@1{1,2,3,4,5,6,7,8,9,10,11,12} a0 v1/0{1,2,3,4,5,6,7,8,9,10,11,12}{1} y- r[] o[1:1] x{} b0" ∷
+    "2 TransPrim t1 g0 w0 p1@1{1,2,3,4,5,6,7,8,9,10,11,12} a0 v1/0{1,2,3,4,5,6,7,8,9,10,11,12}{2} y- r[] o[] x{} b0" ∷
+    "3 TransPrim t1 g0 w0 p1@1{1,2,3,4,5,6,7,8,9,10,11,12} a0 v1/0{1,2,3,4,5,6,7,8,9,10,11,12}{3} y- r[] o[] x{} b0" ∷
+    "4 TransPrim t1 g0 w0 p1@1{1,2,3,4,5,6,7,8,9,10,11,12} a0 v1/0{1,2,3,4,5,6,7,8,9,10,11,12}{4} y- r[] o[] x{} b0" ∷
+    "5 TransPrim t1 g0 w0 p1@1{1,2,3,4,5,6,7,8,9,10,11,12} a0 v1/0{1,2,3,4,5,6,7,8,9,10,11,12}{5} y- r[] o[] x{} b0" ∷
+    "6 TransPrim t1 g0 w0 p1@1{1,2,3,4,5,6,7,8,9,10,11,12} a0 v1/0{1,2,3,4,5,6,7,8,9,10,11,12}{6} y- r[] o[6:1] x{} b0" ∷
+    "7 TransPrim t1 g0 w0 p1@1{1,2,3,4,5,6,7,8,9,10,11,12} a0 v1/0{1,2,3,4,5,6,7,8,9,10,11,12}{7} y- r[] o[] x{} b0" ∷
+    "8 TransPrim t1 g0 w0 p1@1{1,2,3,4,5,6,7,8,9,10,11,12} a0 v1/0{1,2,3,4,5,6,7,8,9,10,11,12}{8} y- r[] o[] x{} b0" ∷
+    "9 TransPrim t1 g0 w0 p1@1{1,2,3,4,5,6,7,8,9,10,11,12} a0 v1/0{1,2,3,4,5,6,7,8,9,10,11,12}{9} y- r[] o[] x{} b0" ∷
+    "10 TransPrim t1 g0 w0 p1@1{1,2,3,4,5,6,7,8,9,10,11,12} a0 v1/0{1,2,3,4,5,6,7,8,9,10,11,12}{10} y- r[] o[] x{} b0" ∷
+    "11 TransPrim t1 g0 w0 p1@1{1,2,3,4,5,6,7,8,9,10,11,12} a0 v1/0{1,2,3,4,5,6,7,8,9,10,11,12}{11} y- r[] o[] x{} b0" ∷
+    "12 TransPrim t1 g0 w0 p1@1{1,2,3,4,5,6,7,8,9,10,11,12} a0 v1/0{1,2,3,4,5,6,7,8,9,10,11,12}{12} y- r[] o[] x{} b0" ∷
+    "= 32" ∷
+    "1 ExchangeStates c2 g0 w0 p1@1{1,2,3,4,5,6,7,8,9,10,11,12} a0 v- y![] r[1:1] o[] x{} b0" ∷
+    "2 ExchangeStates c2 g0 w0 p1@1{1,2,3,4,5,6,7,8,9,10,11,12} a0 v- y![] r[] o[] x{} b0" ∷
+    "3 ExchangeStates c2 g0 w0 p1@1{1,2,3,4,5,6,7,8,9,10,11,12} a0 v- y![] r[] o[] x{} b0" ∷
+    "4 ExchangeStates c2 g0 w0 p1@1{1,2,3,4,5,6,7,8,9,10,11,12} a0 v- y![] r[] o[] x{} b0" ∷
+    "5 ExchangeStates c2 g0 w0 p1@1{1,2,3,4,5,6,7,8,9,10,11,12} a0 v- y![] r[] o[] x{} b0" ∷
+    "6 ExchangeStates c2 g0 w0 p1@1{1,2,3,4,5,6,7,8,9,10,11,12} a0 v- y![] r[6:1] o[] x{} b0" ∷
+    "7 ExchangeStates c2 g0 w0 p1@1{1,2,3,4,5,6,7,8,9,10,11,12} a0 v- y![] r[] o[] x{} b0" ∷
+    "8 ExchangeStates c2 g0 w0 p1@1{1,2,3,4,5,6,7,8,9,10,11,12} a0 v- y![] r[] o[] x{} b0" ∷
+    "9 ExchangeStates c2 g0 w0 p1@1{1,2,3,4,5,6,7,8,9,10,11,12} a0 v- y![] r[] o[] x{} b0" ∷
+    "10 ExchangeStates c2 g0 w0 p1@1{1,2,3,4,5,6,7,8,9,10,11,12} a0 v- y![] r[] o[] x{} b0" ∷
+    "11 ExchangeStates c2 g0 w0 p1@1{1,2,3,4,5,6,7,8,9,10,11,12} a0 v- y![] r[] o[] x{} b0" ∷
+    "12 ExchangeStates c2 g0 w0 p1@1{1,2,3,4,5,6,7,8,9,10,11,12} a0 v- y![] r[] o[] x{} b0" ∷
+    "= 33" ∷
+    "6 ExchangeStates c2 g0 w0 p1@1{1,2,3,4,5,6,7,8,9,10,11,12} a0 v- y![] r[6:1] o[] x{} b1" ∷
+    "= 35" ∷
+    "1 ExchangeActions c2 g0 w0 p1@1{1,2,3,4,5,6,7,8,9,10,11,12} a0 v- y![] r[1:1] o[] x{} b0" ∷
+    "= 36" ∷
+    "2 ExchangeActions c2 g0 w0 p1@1{1,2,3,4,5,6,7,8,9,10,11,12} a0 v- y![] r[] o[] x{} b0" ∷
+    "= 37" ∷
+    "3 ExchangeActions c2 g0 w0 p1@1{1,2,3,4,5,6,7,8,9,10,11,12} a0 v- y![] r[] o[] x{} b0" ∷
+    "= 38" ∷
+    "4 ExchangeActions c2 g0 w0 p1@1{1,2,3,4,5,6,7,8,9,10,11,12} a0 v- y![] r[] o[] x{} b0" ∷
+    "= 39" ∷
+    "5 ExchangeActions c2 g0 w0 p1@1{1,2,3,4,5,6,7,8,9,10,11,12} a0 v- y![] r[] o[] x{} b0" ∷
+    "= 40" ∷
+    "6 ExchangeActions c2 g0 w0 p1@1{1,2,3,4,5,6,7,8,9,10,11,12} a0 v- y![] r[6:1] o[] x{} b1" ∷
+    "= 41" ∷
+    "7 ExchangeActions c2 g0 w0 p1@1{1,2,3,4,5,6,7,8,9,10,11,12} a0 v- y![] r[] o[] x{} b0" ∷
+    "= 42" ∷
+    "8 ExchangeActions c2 g0 w0 p1@1{1,2,3,4,5,6,7,8,9,10,11,12} a0 v- y![] r[] o[] x{} b0" ∷
+    "= 43" ∷
+    "9 ExchangeActions c2 g0 w0 p1@1{1,2,3,4,5,6,7,8,9,10,11,12} a0 v- y![] r[] o[] x{} b0" ∷
+    "= 44" ∷
+    "10 ExchangeActions c2 g0 w0 p1@1{1,2,3,4,5,6,7,8,9,10,11,12} a0 v- y![] r[] o[] x{} b0" ∷
+    "= 45" ∷
+    "11 ExchangeActions c2 g0 w0 p1@1{1,2,3,4,5,6,7,8,9,10,11,12} a0 v- y![] r[] o[] x{} b0" ∷
+    "= 46" ∷
+    "12 ExchangeActions c2 g0 w0 p1@1{1,2,3,4,5,6,7,8,9,10,11,12} a0 v- y![] r[] o[] x{} b0" ∷
+    "= 49" ∷
+    "2 ExchangeActions c2 g0 w0 p1@1{1,2,3,4,5,6,7,8,9,10,11,12} a0 v- y![] r[1:1] o[] x{} b0" ∷
+    "= 50" ∷
+    "3 ExchangeActions c2 g0 w0 p1@1{1,2,3,4,5,6,7,8,9,10,11,12} a0 v- y![] r[1:1] o[] x{} b0" ∷
+    "= 51" ∷
+    "4 ExchangeActions c2 g0 w0 p1@1{1,2,3,4,5,6,7,8,9,10,11,12} a0 v- y![] r[1:1] o[] x{} b0" ∷
+    "= 52" ∷
+    "5 ExchangeActions c2 g0 w0 p1@1{1,2,3,4,5,6,7,8,9,10,11,12} a0 v- y![] r[1:1] o[] x{} b0" ∷
+    "= 53" ∷
+    "6 ExchangeActions c2 g0 w0 p1@1{1,2,3,4,5,6,7,8,9,10,11,12} a0 v- y![] r[1:1,6:1] o[] x{} b1" ∷
+    "= 54" ∷
+    "7 ExchangeActions c2 g0 w0 p1@1{1,2,3,4,5,6,7,8,9,10,11,12} a0 v- y![] r[1:1] o[] x{} b0" ∷
+    "= 55" ∷
+    "8 ExchangeActions c2 g0 w0 p1@1{1,2,3,4,5,6,7,8,9,10,11,12} a0 v- y![] r[1:1] o[] x{} b0" ∷
+    "= 56" ∷
+    "9 ExchangeActions c2 g0 w0 p1@1{1,2,3,4,5,6,7,8,9,10,11,12} a0 v- y![] r[1:1] o[] x{} b0" ∷
+    "= 57" ∷
+    "10 ExchangeActions c2 g0 w0 p1@1{1,2,3,4,5,6,7,8,9,10,11,12} a0 v- y![] r[1:1] o[] x{} b0" ∷
+    "= 58" ∷
+    "11 ExchangeActions c2 g0 w0 p1@1{1,2,3,4,5,6,7,8,9,10,11,12} a0 v- y![] r[1:1] o[] x{} b0" ∷
+    "= 59" ∷
+    "12 ExchangeActions c2 g0 w0 p1@1{1,2,3,4,5,6,7,8,9,10,11,12} a0 v- y![] r[1:1] o[] x{} b0" ∷
+    "= 60" ∷
+    "11 ExchangeActions c2 g0 w0 p1@1{1,2,3,4,5,6,7,8,9,10,11,12} a0 v- y![] r[1:1] o[] x{} b1" ∷
+    "= 64" ∷
+    "11 Construct c2 g0 w0 p1@1{1,2,3,4,5,6,7,8,9,10,11,12} a1 v2/1{1,2,3,4,5,6,7,8,9,10,11,12}{11} y![] r[1:1,6:1] o[] x{} b1" ∷
+    "= 67" ∷
+    "1 Construct c2 g0 w0 p1@1{1,2,3,4,5,6,7,8,9,10,11,12} a1 v2/1{1,2,3,4,5,6,7,8,9,10,11,12}{1} y![] r[1:1,6:1] o[] x{} b0" ∷
+    "= 68" ∷
+    "2 Construct c2 g0 w0 p1@1{1,2,3,4,5,6,7,8,9,10,11,12} a1 v2/1{1,2,3,4,5,6,7,8,9,10,11,12}{2} y![] r[1:1,6:1] o[] x{} b0" ∷
+    "= 69" ∷
+    "3 Construct c2 g0 w0 p1@1{1,2,3,4,5,6,7,8,9,10,11,12} a1 v2/1{1,2,3,4,5,6,7,8,9,10,11,12}{3} y![] r[1:1,6:1] o[] x{} b0" ∷
+    "= 70" ∷
+    "4 Construct c2 g0 w0 p1@1{1,2,3,4,5,6,7,8,9,10,11,12} a1 v2/1{1,2,3,4,5,6,7,8,9,10,11,12}{4} y![] r[1:1,6:1] o[] x{} b0" ∷
+    "= 71" ∷
+    "5 Construct c2 g0 w0 p1@1{1,2,3,4,5,6,7,8,9,10,11,12} a1 v2/1{1,2,3,4,5,6,7,8,9,10,11,12}{5} y![] r[1:1,6:1] o[] x{} b0" ∷
+    "= 72" ∷
+    "6 Construct c2 g0 w0 p1@1{1,2,3,4,5,6,7,8,9,10,11,12} a1 v2/1{1,2,3,4,5,6,7,8,9,10,11,12}{6} y![] r[1:1,6:1] o[] x{} b1" ∷
+    "= 73" ∷
+    "7 Construct c2 g0 w0 p1@1{1,2,3,4,5,6,7,8,9,10,11,12} a1 v2/1{1,2,3,4,5,6,7,8,9,10,11,12}{7} y![] r[1:1,6:1] o[] x{} b0" ∷
+    "= 74" ∷
+    "8 Construct c2 g0 w0 p1@1{1,2,3,4,5,6,7,8,9,10,11,12} a1 v2/1{1,2,3,4,5,6,7,8,9,10,11,12}{8} y![] r[1:1,6:1] o[] x{} b0" ∷
+    "= 75" ∷
+    "9 Construct c2 g0 w0 p1@1{1,2,3,4,5,6,7,8,9,10,11,12} a1 v2/1{1,2,3,4,5,6,7,8,9,10,11,12}{9} y![] r[1:1,6:1] o[] x{} b0" ∷
+    "= 76" ∷
+    "10 Construct c2 g0 w0 p1@1{1,2,3,4,5,6,7,8,9,10,11,12} a1 v2/1{1,2,3,4,5,6,7,8,9,10,11,12}{10} y![] r[1:1,6:1] o[] x{} b0" ∷
+    "= 78" ∷
+    "12 Construct c2 g0 w0 p1@1{1,2,3,4,5,6,7,8,9,10,11,12} a1 v2/1{1,2,3,4,5,6,7,8,9,10,11,12}{12} y![] r[1:1,6:1] o[] x{} b0" ∷
+    "= 80" ∷
+    "order 1 1:1" ∷
+    "order 2 6:1" ∷
+    "1 RegPrim c2 g2 w0 p2@2{1,2,3,4,5,6,7,8,9,10,11,12} a0 v2/1{1,2,3,4,5,6,7,8,9,10,11,12}{1} y- r[] o[] x{} b0" ∷
+    "reply 1:1 done" ∷
+    "= 81" ∷
+    "2 RegPrim c2 g2 w0 p2@2{1,2,3,4,5,6,7,8,9,10,11,12} a0 v2/1{1,2,3,4,5,6,7,8,9,10,11,12}{2} y- r[] o[] x{} b0" ∷
+    "= 82" ∷
+    "3 RegPrim c2 g2 w0 p2@2{1,2,3,4,5,6,7,8,9,10,11,12} a0 v2/1{1,2,3,4,5,6,7,8,9,10,11,12}{3} y- r[] o[] x{} b0" ∷
+    "= 83" ∷
+    "4 RegPrim c2 g2 w0 p2@2{1,2,3,4,5,6,7,8,9,10,11,12} a0 v2/1{1,2,3,4,5,6,7,8,9,10,11,12}{4} y- r[] o[] x{} b0" ∷
+    "= 84" ∷
+    "5 RegPrim c2 g2 w0 p2@2{1,2,3,4,5,6,7,8,9,10,11,12} a0 v2/1{1,2,3,4,5,6,7,8,9,10,11,12}{5} y- r[] o[] x{} b0" ∷
+    "= 85" ∷
+    "made 6:2 inc \"y\" -9223372036854775808 ? get \"b\"" ∷
+    "6 RegPrim c2 g2 w0 p2@2{1,2,3,4,5,6,7,8,9,10,11,12} a0 v2/1{1,2,3,4,5,6,7,8,9,10,11,12}{6} y- r[] o[6:2] x{} b0" ∷
+    "reply 6:1 done" ∷
+    "= 86" ∷
+    "7 RegPrim c2 g2 w0 p2@2{1,2,3,4,5,6,7,8,9,10,11,12} a0 v2/1{1,2,3,4,5,6,7,8,9,10,11,12}{7} y- r[] o[] x{} b0" ∷
+    "= 87" ∷
+    "8 RegPrim c2 g2 w0 p2@2{1,2,3,4,5,6,7,8,9,10,11,12} a0 v2/1{1,2,3,4,5,6,7,8,9,10,11,12}{8} y- r[] o[] x{} b0" ∷
+    "= 88" ∷
+    "9 RegPrim c2 g2 w0 p2@2{1,2,3,4,5,6,7,8,9,10,11,12} a0 v2/1{1,2,3,4,5,6,7,8,9,10,11,12}{9} y- r[] o[] x{} b0" ∷
+    "= 89" ∷
+    "10 RegPrim c2 g2 w0 p2@2{1,2,3,4,5,6,7,8,9,10,11,12} a0 v2/1{1,2,3,4,5,6,7,8,9,10,11,12}{10} y- r[] o[] x{} b0" ∷
+    "= 90" ∷
+    "made 11:1 inc \"abc\" 10" ∷
+    "11 RegPrim c2 g2 w0 p2@2{1,2,3,4,5,6,7,8,9,10,11,12} a0 v2/1{1,2,3,4,5,6,7,8,9,10,11,12}{11} y- r[] o[11:1] x{} b0" ∷
+    "= 91" ∷
+    "12 RegPrim c2 g2 w0 p2@2{1,2,3,4,5,6,7,8,9,10,11,12} a0 v2/1{1,2,3,4,5,6,7,8,9,10,11,12}{12} y- r[] o[] x{} b0" ∷
+    "= 93" ∷
+    "order 3 6:2" ∷
+    "order 4 11:1" ∷
+    "1 RegPrim c2 g4 w0 p2@2{1,2,3,4,5,6,7,8,9,10,11,12} a0 v2/1{1,2,3,4,5,6,7,8,9,10,11,12}{1} y- r[] o[] x{} b0" ∷
+    "= 94" ∷
+    "2 RegPrim c2 g4 w0 p2@2{1,2,3,4,5,6,7,8,9,10,11,12} a0 v2/1{1,2,3,4,5,6,7,8,9,10,11,12}{2} y- r[] o[] x{} b0" ∷
+    "= 95" ∷
+    "3 RegPrim c2 g4 w0 p2@2{1,2,3,4,5,6,7,8,9,10,11,12} a0 v2/1{1,2,3,4,5,6,7,8,9,10,11,12}{3} y- r[] o[] x{} b0" ∷
+    "= 96" ∷
+    "4 RegPrim c2 g4 w0 p2@2{1,2,3,4,5,6,7,8,9,10,11,12} a0 v2/1{1,2,3,4,5,6,7,8,9,10,11,12}{4} y- r[] o[] x{} b0" ∷
+    "= 97" ∷
+    "5 RegPrim c2 g4 w0 p2@2{1,2,3,4,5,6,7,8,9,10,11,12} a0 v2/1{1,2,3,4,5,6,7,8,9,10,11,12}{5} y- r[] o[] x{} b0" ∷
+    "= 98" ∷
+    "6 RegPrim c2 g4 w0 p2@2{1,2,3,4,5,6,7,8,9,10,11,12} a0 v2/1{1,2,3,4,5,6,7,8,9,10,11,12}{6} y- r[] o[] x{} b0" ∷
+    "reply 6:2 done ? absent" ∷
+    "= 99" ∷
+    "7 RegPrim c2 g4 w0 p2@2{1,2,3,4,5,6,7,8,9,10,11,12} a0 v2/1{1,2,3,4,5,6,7,8,9,10,11,12}{7} y- r[] o[] x{} b0" ∷
+    "= 100" ∷
+    "8 RegPrim c2 g4 w0 p2@2{1,2,3,4,5,6,7,8,9,10,11,12} a0 v2/1{1,2,3,4,5,6,7,8,9,10,11,12}{8} y- r[] o[] x{} b0" ∷
+    "= 101" ∷
+    "9 RegPrim c2 g4 w0 p2@2{1,2,3,4,5,6,7,8,9,10,11,12} a0 v2/1{1,2,3,4,5,6,7,8,9,10,11,12}{9} y- r[] o[] x{} b0" ∷
+    "= 102" ∷
+    "10 RegPrim c2 g4 w0 p2@2{1,2,3,4,5,6,7,8,9,10,11,12} a0 v2/1{1,2,3,4,5,6,7,8,9,10,11,12}{10} y- r[] o[] x{} b0" ∷
+    "= 103" ∷
+    "11 RegPrim c2 g4 w0 p2@2{1,2,3,4,5,6,7,8,9,10,11,12} a0 v2/1{1,2,3,4,5,6,7,8,9,10,11,12}{11} y- r[] o[] x{} b0" ∷
+    "reply 11:1 done" ∷
+    "= 104" ∷
+    "12 RegPrim c2 g4 w0 p2@2{1,2,3,4,5,6,7,8,9,10,11,12} a0 v2/1{1,2,3,4,5,6,7,8,9,10,11,12}{12} y- r[] o[] x{} b0" ∷
+    "= 106" ∷
+    "made 2:1 del \"ab\"" ∷
+    "2 RegPrim c2 g4 w0 p2@2{1,2,3,4,5,6,7,8,9,10,11,12} a0 v2/1{1,2,3,4,5,6,7,8,9,10,11,12}{2} y- r[] o[2:1] x{} b0" ∷
+    "= 108" ∷
+    "order 5 2:1" ∷
+    "1 RegPrim c2 g5 w0 p2@2{1,2,3,4,5,6,7,8,9,10,11,12} a0 v2/1{1,2,3,4,5,6,7,8,9,10,11,12}{1} y- r[] o[] x{} b0" ∷
+    "= 109" ∷
+    "2 RegPrim c2 g5 w0 p2@2{1,2,3,4,5,6,7,8,9,10,11,12} a0 v2/1{1,2,3,4,5,6,7,8,9,10,11,12}{2} y- r[] o[] x{} b0" ∷
+    "reply 2:1 done" ∷
+    "= 110" ∷
+    "3 RegPrim c2 g5 w0 p2@2{1,2,3,4,5,6,7,8,9,10,11,12} a0 v2/1{1,2,3,4,5,6,7,8,9,10,11,12}{3} y- r[] o[] x{} b0" ∷
+    "= 111" ∷
+    "4 RegPrim c2 g5 w0 p2@2{1,2,3,4,5,6,7,8,9,10,11,12} a0 v2/1{1,2,3,4,5,6,7,8,9,10,11,12}{4} y- r[] o[] x{} b0" ∷
+    "= 112" ∷
+    "5 RegPrim c2 g5 w0 p2@2{1,2,3,4,5,6,7,8,9,10,11,12} a0 v2/1{1,2,3,4,5,6,7,8,9,10,11,12}{5} y- r[] o[] x{} b0" ∷
+    "= 113" ∷
+    "6 RegPrim c2 g5 w0 p2@2{1,2,3,4,5,6,7,8,9,10,11,12} a0 v2/1{1,2,3,4,5,6,7,8,9,10,11,12}{6} y- r[] o[] x{} b0" ∷
+    "= 114" ∷
+    "7 RegPrim c2 g5 w0 p2@2{1,2,3,4,5,6,7,8,9,10,11,12} a0 v2/1{1,2,3,4,5,6,7,8,9,10,11,12}{7} y- r[] o[] x{} b0" ∷
+    "= 115" ∷
+    "8 RegPrim c2 g5 w0 p2@2{1,2,3,4,5,6,7,8,9,10,11,12} a0 v2/1{1,2,3,4,5,6,7,8,9,10,11,12}{8} y- r[] o[] x{} b0" ∷
+    "= 116" ∷
+    "9 RegPrim c2 g5 w0 p2@2{1,2,3,4,5,6,7,8,9,10,11,12} a0 v2/1{1,2,3,4,5,6,7,8,9,10,11,12}{9} y- r[] o[] x{} b0" ∷
+    "= 117" ∷
+    "10 RegPrim c2 g5 w0 p2@2{1,2,3,4,5,6,7,8,9,10,11,12} a0 v2/1{1,2,3,4,5,6,7,8,9,10,11,12}{10} y- r[] o[] x{} b0" ∷
+    "= 118" ∷
+    "11 RegPrim c2 g5 w0 p2@2{1,2,3,4,5,6,7,8,9,10,11,12} a0 v2/1{1,2,3,4,5,6,7,8,9,10,11,12}{11} y- r[] o[] x{} b0" ∷
+    "= 119" ∷
+    "12 RegPrim c2 g5 w0 p2@2{1,2,3,4,5,6,7,8,9,10,11,12} a0 v2/1{1,2,3,4,5,6,7,8,9,10,11,12}{12} y- r[] o[] x{} b0" ∷
+    "= 121" ∷
+    "made 12:1 inc \"y\" 9223372036854775807" ∷
+    "12 RegPrim c2 g5 w0 p2@2{1,2,3,4,5,6,7,8,9,10,11,12} a0 v2/1{1,2,3,4,5,6,7,8,9,10,11,12}{12} y- r[] o[12:1] x{} b0" ∷
+    "= 122" ∷
+    "made 5:1 inc \"b\" 4" ∷
+    "5 RegPrim c2 g5 w0 p2@2{1,2,3,4,5,6,7,8,9,10,11,12} a0 v2/1{1,2,3,4,5,6,7,8,9,10,11,12}{5} y- r[] o[5:1] x{} b0" ∷
+    "= 124" ∷
+    "order 6 5:1" ∷
+    "order 7 12:1" ∷
+    "1 RegPrim c2 g7 w0 p2@2{1,2,3,4,5,6,7,8,9,10,11,12} a0 v2/1{1,2,3,4,5,6,7,8,9,10,11,12}{1} y- r[] o[] x{} b0" ∷
+    "= 125" ∷
+    "2 RegPrim c2 g7 w0 p2@2{1,2,3,4,5,6,7,8,9,10,11,12} a0 v2/1{1,2,3,4,5,6,7,8,9,10,11,12}{2} y- r[] o[] x{} b0" ∷
+    "= 126" ∷
+    "3 RegPrim c2 g7 w0 p2@2{1,2,3,4,5,6,7,8,9,10,11,12} a0 v2/1{1,2,3,4,5,6,7,8,9,10,11,12}{3} y- r[] o[] x{} b0" ∷
+    "= 127" ∷
+    "4 RegPrim c2 g7 w0 p2@2{1,2,3,4,5,6,7,8,9,10,11,12} a0 v2/1{1,2,3,4,5,6,7,8,9,10,11,12}{4} y- r[] o[] x{} b0" ∷
+    "= 128" ∷
+    "5 RegPrim c2 g7 w0 p2@2{1,2,3,4,5,6,7,8,9,10,11,12} a0 v2/1{1,2,3,4,5,6,7,8,9,10,11,12}{5} y- r[] o[] x{} b0" ∷
+    "reply 5:1 done" ∷
+    "= 129" ∷
+    "6 RegPrim c2 g7 w0 p2@2{1,2,3,4,5,6,7,8,9,10,11,12} a0 v2/1{1,2,3,4,5,6,7,8,9,10,11,12}{6} y- r[] o[] x{} b0" ∷
+    "= 130" ∷
+    "7 RegPrim c2 g7 w0 p2@2{1,2,3,4,5,6,7,8,9,10,11,12} a0 v2/1{1,2,3,4,5,6,7,8,9,10,11,12}{7} y- r[] o[] x{} b0" ∷
+    "= 131" ∷
+    "8 RegPrim c2 g7 w0 p2@2{1,2,3,4,5,6,7,8,9,10,11,12} a0 v2/1{1,2,3,4,5,6,7,8,9,10,11,12}{8} y- r[] o[] x{} b0" ∷
+    "= 132" ∷
+    "9 RegPrim c2 g7 w0 p2@2{1,2,3,4,5,6,7,8,9,10,11,12} a0 v2/1{1,2,3,4,5,6,7,8,9,10,11,12}{9} y- r[] o[] x{} b0" ∷
+    "= 133" ∷
+    "10 RegPrim c2 g7 w0 p2@2{1,2,3,4,5,6,7,8,9,10,11,12} a0 v2/1{1,2,3,4,5,6,7,8,9,10,11,12}{10} y- r[] o[] x{} b0" ∷
+    "= 134" ∷
+    "11 RegPrim c2 g7 w0 p2@2{1,2,3,4,5,6,7,8,9,10,11,12} a0 v2/1{1,2,3,4,5,6,7,8,9,10,11,12}{11} y- r[] o[] x{} b0" ∷
+    "= 135" ∷
+    "12 RegPrim c2 g7 w0 p2@2{1,2,3,4,5,6,7,8,9,10,11,12} a0 v2/1{1,2,3,4,5,6,7,8,9,10,11,12}{12} y- r[] o[] x{} b0" ∷
+    "reply 12:1 done" ∷
+    "= 137" ∷
+    "2 TransPrim t2 g7 w0 p2@2{1,2,3,4,5,6,7,8,9,10,11,12} a0 v2/1{1,2,3,4,5,6,7,8,9,10,11,12}{2} y- r[] o[] x{} b0" ∷
+    "3 TransPrim t2 g7 w0 p2@2{1,2,3,4,5,6,7,8,9,10,11,12} a0 v2/1{1,2,3,4,5,6,7,8,9,10,11,12}{3} y- r[] o[] x{} b0" ∷
+    "4 TransPrim t2 g7 w0 p2@2{1,2,3,4,5,6,7,8,9,10,11,12} a0 v2/1{1,2,3,4,5,6,7,8,9,10,11,12}{4} y- r[] o[] x{} b0" ∷
+    "6 TransPrim t2 g7 w0 p2@2{1,2,3,4,5,6,7,8,9,10,11,12} a0 v2/1{1,2,3,4,5,6,7,8,9,10,11,12}{6} y- r[] o[] x{} b0" ∷
+    "10 TransPrim t2 g7 w0 p2@2{1,2,3,4,5,6,7,8,9,10,11,12} a0 v2/1{1,2,3,4,5,6,7,8,9,10,11,12}{10} y- r[] o[] x{} b0" ∷
+    "12 TransPrim t2 g7 w0 p2@2{1,2,3,4,5,6,7,8,9,10,11,12} a0 v2/1{1,2,3,4,5,6,7,8,9,10,11,12}{12} y- r[] o[] x{} b0" ∷
+    "= 138" ∷
+    "1 TransPrim t2 g7 w0 p2@2{1,2,3,4,5,6,7,8,9,10,11,12} a0 v2/1{1,2,3,4,5,6,7,8,9,10,11,12}{1} y- r[] o[] x{} b0" ∷
+    "5 TransPrim t2 g7 w0 p2@2{1,2,3,4,5,6,7,8,9,10,11,12} a0 v2/1{1,2,3,4,5,6,7,8,9,10,11,12}{5} y- r[] o[] x{} b0" ∷
+    "7 TransPrim t2 g7 w0 p2@2{1,2,3,4,5,6,7,8,9,10,11,12} a0 v2/1{1,2,3,4,5,6,7,8,9,10,11,12}{7} y- r[] o[] x{} b0" ∷
+    "8 TransPrim t2 g7 w0 p2@2{1,2,3,4,5,6,7,8,9,10,11,12} a0 v2/1{1,2,3,4,5,6,7,8,9,10,11,12}{8} y- r[] o[] x{} b0" ∷
+    "9 TransPrim t2 g7 w0 p2@2{1,2,3,4,5,6,7,8,9,10,11,12} a0 v2/1{1,2,3,4,5,6,7,8,9,10,11,12}{9} y- r[] o[] x{} b0" ∷
+    "11 TransPrim t2 g7 w0 p2@2{1,2,3,4,5,6,7,8,9,10,11,12} a0 v2/1{1,2,3,4,5,6,7,8,9,10,11,12}{11} y- r[] o[] x{} b0" ∷
+    "= 139" ∷
+    "2 ExchangeStates c3 g7 w0 p2@2{1,2,3,4,5,6,7,8,9,10,11,12} a0 v- y![] r[] o[] x{} b0" ∷
+    "3 ExchangeStates c3 g7 w0 p2@2{1,2,3,4,5,6,7,8,9,10,11,12} a0 v- y![] r[] o[] x{} b0" ∷
+    "4 ExchangeStates c3 g7 w0 p2@2{1,2,3,4,5,6,7,8,9,10,11,12} a0 v- y![] r[] o[] x{} b0" ∷
+    "6 ExchangeStates c3 g7 w0 p2@2{1,2,3,4,5,6,7,8,9,10,11,12} a0 v- y![] r[] o[] x{} b0" ∷
+    "10 ExchangeStates c3 g7 w0 p2@2{1,2,3,4,5,6,7,8,9,10,11,12} a0 v- y![] r[] o[] x{} b0" ∷
+    "12 ExchangeStates c3 g7 w0 p2@2{1,2,3,4,5,6,7,8,9,10,11,12} a0 v- y![] r[] o[] x{} b0" ∷
+    "= 140" ∷
+    "1 ExchangeStates c4 g7 w0 p2@2{1,2,3,4,5,6,7,8,9,10,11,12} a0 v- y![] r[] o[] x{} b0" ∷
+    "5 ExchangeStates c4 g7 w0 p2@2{1,2,3,4,5,6,7,8,9,10,11,12} a0 v- y![] r[] o[] x{} b0" ∷
+    "7 ExchangeStates c4 g7 w0 p2@2{1,2,3,4,5,6,7,8,9,10,11,12} a0 v- y![] r[] o[] x{} b0" ∷
+    "8 ExchangeStates c4 g7 w0 p2@2{1,2,3,4,5,6,7,8,9,10,11,12} a0 v- y![] r[] o[] x{} b0" ∷
+    "9 ExchangeStates c4 g7 w0 p2@2{1,2,3,4,5,6,7,8,9,10,11,12} a0 v- y![] r[] o[] x{} b0" ∷
+    "11 ExchangeStates c4 g7 w0 p2@2{1,2,3,4,5,6,7,8,9,10,11,12} a0 v- y![] r[] o[] x{} b0" ∷
+    "= 141" ∷
+    "2 ExchangeStates c3 g7 w0 p2@2{1,2,3,4,5,6,7,8,9,10,11,12} a0 v- y![] r[] o[] x{} b1" ∷
+    "= 142" ∷
+    "12 ExchangeStates c3 g7 w0 p2@2{1,2,3,4,5,6,7,8,9,10,11,12} a0 v- y![] r[] o[] x{} b1" ∷
+    "end 142" ∷
+    [])
+unfolding cases_compute
+many_replicas_primary_split_a = refl
+
+-- A member that is Left need not be named by a merge.
+merge_without_a_member_that_left_a :
+    replayed_text (
+    "start 1 2 3 4 5" ∷
+    "merge 1 2 3 4 5" ∷
+    "leave 4 5" ∷
+    "rounds 3" ∷
+    "split 1 4 5" ∷
+    "split 2" ∷
+    "split 3" ∷
+    "merge 1 2 3 4 5" ∷
+    "gather" ∷
+    "deliver 4 4" ∷
+    "deliver 4 1" ∷
+    "split 1 2 3 4 5" ∷
+    "merge 1 2 3 4" ∷
+    "end" ∷
+    [])
+    ≡ written (
+    "= 1" ∷
+    "1 NonPrim - g0 w0 p0@0{1,2,3,4,5} a0 v- y- r[] o[] x{} b0" ∷
+    "2 NonPrim - g0 w0 p0@0{1,2,3,4,5} a0 v- y- r[] o[] x{} b0" ∷
+    "3 NonPrim - g0 w0 p0@0{1,2,3,4,5} a0 v- y- r[] o[] x{} b0" ∷
+    "4 NonPrim - g0 w0 p0@0{1,2,3,4,5} a0 v- y- r[] o[] x{} b0" ∷
+    "5 NonPrim - g0 w0 p0@0{1,2,3,4,5} a0 v- y- r[] o[] x{} b0" ∷
+    "= 2" ∷
+    "1 ExchangeStates c1 g0 w0 p0@0{1,2,3,4,5} a0 v- y- r[] o[] x{} b0" ∷
+    "2 ExchangeStates c1 g0 w0 p0@0{1,2,3,4,5} a0 v- y- r[] o[] x{} b0" ∷
+    "3 ExchangeStates c1 g0 w0 p0@0{1,2,3,4,5} a0 v- y- r[] o[] x{} b0" ∷
+    "4 ExchangeStates c1 g0 w0 p0@0{1,2,3,4,5} a0 v- y- r[] o[] x{} b0" ∷
+    "5 ExchangeStates c1 g0 w0 p0@0{1,2,3,4,5} a0 v- y- r[] o[] x{} b0" ∷
+    "= 3" ∷
+    "4 ExchangeStates c1 g0 w0 p0@0{1,2,3,4,5} a0 v- y- r[] o[] x{} b1" ∷
+    "= 5" ∷
+    "1 Construct c1 g0 w0 p0@0{1,2,3,4,5} a1 v1/0{1,2,3,4,5}{1} y- r[] o[] x{} b0" ∷
+    "= 6" ∷
+    "2 Construct c1 g0 w0 p0@0{1,2,3,4,5} a1 v1/0{1,2,3,4,5}{2} y- r[] o[] x{} b0" ∷
+    "= 7" ∷
+    "3 Construct c1 g0 w0 p0@0{1,2,3,4,5} a1 v1/0{1,2,3,4,5}{3} y- r[] o[] x{} b0" ∷
+    "= 8" ∷
+    "4 Construct c1 g0 w0 p0@0{1,2,3,4,5} a1 v1/0{1,2,3,4,5}{4} y- r[] o[] x{} b1" ∷
+    "= 9" ∷
+    "5 Construct c1 g0 w0 p0@0{1,2,3,4,5} a1 v1/0{1,2,3,4,5}{5} y- r[] o[] x{} b0" ∷
+    "= 11" ∷
+    "1 RegPrim c1 g0 w0 p1@1{1,2,3,4,5} a0 v1/0{1,2,3,4,5}{1} y- r[] o[] x{} b0" ∷
+    "= 12" ∷
+    "2 RegPrim c1 g0 w0 p1@1{1,2,3,4,5} a0 v1/0{1,2,3,4,5}{2} y- r[] o[] x{} b0" ∷
+    "= 13" ∷
+    "3 RegPrim c1 g0 w0 p1@1{1,2,3,4,5} a0 v1/0{1,2,3,4,5}{3} y- r[] o[] x{} b0" ∷
+    "= 14" ∷
+    "made 4:1 leave 5" ∷
+    "4 RegPrim c1 g0 w0 p1@1{1,2,3,4,5} a0 v1/0{1,2,3,4,5}{4} y- r[] o[4:1] x{} b0" ∷
+    "= 15" ∷
+    "5 RegPrim c1 g0 w0 p1@1{1,2,3,4,5} a0 v1/0{1,2,3,4,5}{5} y- r[] o[] x{} b0" ∷
+    "= 17" ∷
+    "order 1 4:1" ∷
+    "1 RegPrim c1 g1 w0 p1@1{1,2,3,4,5} a0 v1/0{1,2,3,4,5}{1} y- r[] o[] x{5} b0" ∷
+    "= 18" ∷
+    "2 RegPrim c1 g1 w0 p1@1{1,2,3,4,5} a0 v1/0{1,2,3,4,5}{2} y- r[] o[] x{5} b0" ∷
+    "= 19" ∷
+    "3 RegPrim c1 g1 w0 p1@1{1,2,3,4,5} a0 v1/0{1,2,3,4,5}{3} y- r[] o[] x{5} b0" ∷
+    "= 20" ∷
+    "4 RegPrim c1 g1 w0 p1@1{1,2,3,4,5} a0 v1/0{1,2,3,4,5}{4} y- r[] o[] x{5} b0" ∷
+    "reply 4:1 done" ∷
+    "= 21" ∷
+    "5 RegPrim c1 g1 w0 p1@1{1,2,3,4,5} a0 v1/0{1,2,3,4,5}{5} y- r[] o[] x{5} b0" ∷
+    "= 22" ∷
+    "1 TransPrim t1 g1 w0 p1@1{1,2,3,4,5} a0 v1/0{1,2,3,4,5}{1} y- r[] o[] x{5} b0" ∷
+    "4 TransPrim t1 g1 w0 p1@1{1,2,3,4,5} a0 v1/0{1,2,3,4,5}{4} y- r[] o[] x{5} b0" ∷
+    "5 TransPrim t1 g1 w0 p1@1{1,2,3,4,5} a0 v1/0{1,2,3,4,5}{5} y- r[] o[] x{5} b0" ∷
+    "= 23" ∷
+    "2 TransPrim t1 g1 w0 p1@1{1,2,3,4,5} a0 v1/0{1,2,3,4,5}{2} y- r[] o[] x{5} b0" ∷
+    "= 24" ∷
+    "3 TransPrim t1 g1 w0 p1@1{1,2,3,4,5} a0 v1/0{1,2,3,4,5}{3} y- r[] o[] x{5} b0" ∷
+    "= 25" ∷
+    "1 ExchangeStates c2 g1 w0 p1@1{1,2,3,4,5} a0 v- y![] r[] o[] x{5} b0" ∷
+    "2 ExchangeStates c2 g1 w0 p1@1{1,2,3,4,5} a0 v- y![] r[] o[] x{5} b0" ∷
+    "3 ExchangeStates c2 g1 w0 p1@1{1,2,3,4,5} a0 v- y![] r[] o[] x{5} b0" ∷
+    "4 ExchangeStates c2 g1 w0 p1@1{1,2,3,4,5} a0 v- y![] r[] o[] x{5} b0" ∷
+    "5 ExchangeStates c2 g1 w0 p1@1{1,2,3,4,5} a0 v- y![] r[] o[] x{5} b0" ∷
+    "= 28" ∷
+    "4 Construct c2 g1 w0 p1@1{1,2,3,4,5} a1 v2/1{1,2,3,4}{4} y![] r[] o[] x{5} b0" ∷
+    "= 29" ∷
+    "1 No t2 g1 w0 p1@1{1,2,3,4,5} a1 v2/1{1,2,3,4}{1} y![] r[] o[] x{5} b0" ∷
+    "2 No t2 g1 w0 p1@1{1,2,3,4,5} a1 v2/1{1,2,3,4}{2} y![] r[] o[] x{5} b0" ∷
+    "3 No t2 g1 w0 p1@1{1,2,3,4,5} a1 v2/1{1,2,3,4}{3} y![] r[] o[] x{5} b0" ∷
+    "4 No t2 g1 w0 p1@1{1,2,3,4,5} a1 v2/1{1,2,3,4}{4} y![] r[] o[] x{5} b0" ∷
+    "5 Left t2 g1 w0 p1@1{1,2,3,4,5} a0 v- y![] r[] o[] x{5} b0" ∷
+    "= 30" ∷
+    "1 ExchangeStates c3 g1 w0 p1@1{1,2,3,4,5} a1 v- y![] r[] o[] x{5} b0" ∷
+    "2 ExchangeStates c3 g1 w0 p1@1{1,2,3,4,5} a1 v- y![] r[] o[] x{5} b0" ∷
+    "3 ExchangeStates c3 g1 w0 p1@1{1,2,3,4,5} a1 v- y![] r[] o[] x{5} b0" ∷
+    "4 ExchangeStates c3 g1 w0 p1@1{1,2,3,4,5} a1 v- y![] r[] o[] x{5} b0" ∷
+    "end 30" ∷
+    [])
+unfolding cases_compute
+merge_without_a_member_that_left_a = refl

@@ -4,248 +4,372 @@ use mathlib.Core.Path.{refl}
 use Rattle.cg_run_cases.specs.Replaying.{replayed_text, written}
 use Rattle.cg_run_cases.specs.Computing.{cases_compute}
 
--- Replicas at the start: 3: several primaries follow one another; a server that was removed is told so; a snapshot is handed on in pieces.
-three_replicas_several_primaries_leaver_joiner_a_from_discarding :
+-- Replicas at the start: 3: actions are ordered.
+three_replicas_actions_ordered_a_from_discarding :
     replayed_text (
-    "start 1 2 3" ∷
-    "merge 1 2 3" ∷
-    "rounds 3" ∷
-    "gather" ∷
-    "leave 1 1" ∷
-    "order 1" ∷
-    "rounds 3" ∷
-    "request 2 need \"b\" absent" ∷
+    "start 6 12 25" ∷
+    "merge 6 12 25" ∷
     "rounds 1" ∷
-    "stop 1 9 01" ∷
-    "split 1 2 3" ∷
-    "merge 1 2 3" ∷
-    "leave 3 1" ∷
+    "request 12 put \"k1\" 65 ? get \"it's\"" ∷
+    "request 25 inc \"k1\" 84" ∷
+    "request 12 put \"x\" 99" ∷
+    "request 6 put \"y\" 66 ? get \"z~\"" ∷
+    "request 12 put \"k1\" 63" ∷
     "rounds 3" ∷
-    "request 2 put \"b\" \"; ? #\"" ∷
-    "order 2" ∷
-    "receive 3 7" ∷
-    "split 1" ∷
-    "split 3" ∷
-    "request 2 inc \"a\" 2" ∷
-    "request 3 move \"b\" \"a\" 1" ∷
-    "leave 2 2" ∷
-    "join 2 4" ∷
+    "request 25 put \"z~\" 66" ∷
+    "request 6 put \"z~\" 68" ∷
     "rounds 1" ∷
+    "request 12 inc \"it's\" -1 ? get \"a\"" ∷
+    "request 25 inc \"z~\" 69" ∷
+    "request 12 inc \"z~\" 64" ∷
+    "request 25 put \"a\" 9223372036854775806 ? get \"y\"" ∷
+    "rounds 1" ∷
+    "request 6 put \"long-key\" 73" ∷
+    "show order" ∷
+    "request 12 put \"x\" 70" ∷
+    "rounds 3" ∷
     "rounds 1" ∷
     "rounds 3" ∷
-    "request 2 inc \"y\" -3" ∷
+    "show order" ∷
+    "rounds 3" ∷
+    "rounds 1" ∷
+    "request 25 put \"k1\" -9223372036854775807 ? get \"y\"" ∷
+    "request 25 inc \"y\" 47" ∷
+    "rounds 3" ∷
+    "rounds 3" ∷
+    "request 6 put \"k1\" 18" ∷
+    "request 12 inc \"long-key\" -1 ? get \"y\"" ∷
+    "rounds 3" ∷
+    "request 6 inc \"it's\" 69 ? get \"y\"" ∷
+    "request 6 put \"a\" 80 ? get \"long-key\"" ∷
+    "show order" ∷
+    "request 6 put \"it's\" 32" ∷
+    "show order" ∷
+    "request 12 put \"long-key\" 82" ∷
     "rounds 2" ∷
-    "join 3 20" ∷
     "rounds 2" ∷
-    "split 2" ∷
-    "merge 2 3" ∷
-    "rounds 1" ∷
-    "rounds 1" ∷
-    "rounds 1" ∷
-    "transfer 3 4 100" ∷
-    "request 3 inc \"a\" -2; need \"k1\" 32" ∷
-    "split 2 3" ∷
-    "merge 2 3" ∷
-    "request 2 del \"z\" ? get \"x\"" ∷
+    "request 12 inc \"y\" 67" ∷
+    "rounds 3" ∷
     "rounds 2" ∷
-    "request 4 put \"k1\" 81" ∷
-    "leave 3 20" ∷
-    "request 3 put \"y\" 85; del \"b\"; put \"z\" 16; del \"x\"; inc \"a\" 7; inc \"z\" 7; inc \"abc\" -3; cas \"x\" 98 8; cas \"a\" absent -9223372036854775808; cas \"y\" absent 50; inc \"b\" 2; inc \"a\" 9; need \"x\" absent; put \"z\" 58; need \"z\" -7; put \"a\" -9223372036854775808" ∷
-    "request 4 put \"x\" 70; need \"b\" absent" ∷
-    "request 3 put \"b\" 77" ∷
-    "order 3" ∷
+    "request 12 put \"long-key\" 18" ∷
+    "request 25 put \"it's\" 5" ∷
+    "request 25 put \"long-key\" 10 ? get \"y\"" ∷
+    "rounds 3" ∷
+    "rounds 3" ∷
+    "rounds 2" ∷
+    "request 25 put \"a\" 71" ∷
+    "request 6 put \"it's\" 17" ∷
+    "request 25 inc \"a\" -1 ? get \"x\"" ∷
     "end" ∷
     [])
     ≡ written (
     "= 1" ∷
-    "1 NonPrim - g0 w0 p0@0{1,2,3} a0 v- y- r[] o[] x{} b0" ∷
-    "2 NonPrim - g0 w0 p0@0{1,2,3} a0 v- y- r[] o[] x{} b0" ∷
-    "3 NonPrim - g0 w0 p0@0{1,2,3} a0 v- y- r[] o[] x{} b0" ∷
+    "6 NonPrim - g0 w0 p0@0{6,12,25} a0 v- y- r[] o[] x{} b0" ∷
+    "12 NonPrim - g0 w0 p0@0{6,12,25} a0 v- y- r[] o[] x{} b0" ∷
+    "25 NonPrim - g0 w0 p0@0{6,12,25} a0 v- y- r[] o[] x{} b0" ∷
     "= 2" ∷
-    "1 ExchangeStates c1 g0 w0 p0@0{1,2,3} a0 v- y- r[] o[] x{} b0" ∷
-    "2 ExchangeStates c1 g0 w0 p0@0{1,2,3} a0 v- y- r[] o[] x{} b0" ∷
-    "3 ExchangeStates c1 g0 w0 p0@0{1,2,3} a0 v- y- r[] o[] x{} b0" ∷
+    "6 ExchangeStates c1 g0 w0 p0@0{6,12,25} a0 v- y- r[] o[] x{} b0" ∷
+    "12 ExchangeStates c1 g0 w0 p0@0{6,12,25} a0 v- y- r[] o[] x{} b0" ∷
+    "25 ExchangeStates c1 g0 w0 p0@0{6,12,25} a0 v- y- r[] o[] x{} b0" ∷
     "= 4" ∷
-    "1 Construct c1 g0 w0 p0@0{1,2,3} a1 v1/0{1,2,3}{1} y- r[] o[] x{} b0" ∷
+    "6 Construct c1 g0 w0 p0@0{6,12,25} a1 v1/0{6,12,25}{6} y- r[] o[] x{} b0" ∷
     "= 5" ∷
-    "2 Construct c1 g0 w0 p0@0{1,2,3} a1 v1/0{1,2,3}{2} y- r[] o[] x{} b0" ∷
+    "12 Construct c1 g0 w0 p0@0{6,12,25} a1 v1/0{6,12,25}{12} y- r[] o[] x{} b0" ∷
     "= 6" ∷
-    "3 Construct c1 g0 w0 p0@0{1,2,3} a1 v1/0{1,2,3}{3} y- r[] o[] x{} b0" ∷
+    "25 Construct c1 g0 w0 p0@0{6,12,25} a1 v1/0{6,12,25}{25} y- r[] o[] x{} b0" ∷
+    "= 7" ∷
+    "12 Construct c1 g0 w0 p0@0{6,12,25} a1 v1/0{6,12,25}{12} y- r[] o[] x{} b1" ∷
     "= 8" ∷
-    "1 RegPrim c1 g0 w0 p1@1{1,2,3} a0 v1/0{1,2,3}{1} y- r[] o[] x{} b0" ∷
+    "25 Construct c1 g0 w0 p0@0{6,12,25} a1 v1/0{6,12,25}{25} y- r[] o[] x{} b1" ∷
     "= 9" ∷
-    "2 RegPrim c1 g0 w0 p1@1{1,2,3} a0 v1/0{1,2,3}{2} y- r[] o[] x{} b0" ∷
+    "12 Construct c1 g0 w0 p0@0{6,12,25} a1 v1/0{6,12,25}{12} y- r[] o[] x{} b2" ∷
     "= 10" ∷
-    "3 RegPrim c1 g0 w0 p1@1{1,2,3} a0 v1/0{1,2,3}{3} y- r[] o[] x{} b0" ∷
+    "6 Construct c1 g0 w0 p0@0{6,12,25} a1 v1/0{6,12,25}{6} y- r[] o[] x{} b1" ∷
+    "= 11" ∷
+    "12 Construct c1 g0 w0 p0@0{6,12,25} a1 v1/0{6,12,25}{12} y- r[] o[] x{} b3" ∷
     "= 13" ∷
-    "made 1:1 leave 1" ∷
-    "1 RegPrim c1 g0 w0 p1@1{1,2,3} a0 v1/0{1,2,3}{1} y- r[] o[1:1] x{} b0" ∷
-    "= 16" ∷
-    "order 1 1:1" ∷
-    "1 RegPrim c1 g1 w0 p1@1{1,2,3} a0 v1/0{1,2,3}{1} y- r[] o[] x{1} b0" ∷
-    "reply 1:1 done" ∷
+    "made 6:1 put \"y\" 66 ? get \"z~\"" ∷
+    "6 RegPrim c1 g0 w0 p1@1{6,12,25} a0 v1/0{6,12,25}{6} y- r[] o[6:1] x{} b0" ∷
+    "= 14" ∷
+    "made 12:1 put \"k1\" 65 ? get \"it's\"" ∷
+    "made 12:2 put \"x\" 99" ∷
+    "made 12:3 put \"k1\" 63" ∷
+    "12 RegPrim c1 g0 w0 p1@1{6,12,25} a0 v1/0{6,12,25}{12} y- r[] o[12:1,12:2,12:3] x{} b0" ∷
+    "= 15" ∷
+    "made 25:1 inc \"k1\" 84" ∷
+    "25 RegPrim c1 g0 w0 p1@1{6,12,25} a0 v1/0{6,12,25}{25} y- r[] o[25:1] x{} b0" ∷
     "= 17" ∷
-    "2 RegPrim c1 g1 w0 p1@1{1,2,3} a0 v1/0{1,2,3}{2} y- r[] o[] x{1} b0" ∷
+    "order 1 6:1" ∷
+    "order 2 12:1" ∷
+    "order 3 12:2" ∷
+    "order 4 12:3" ∷
+    "order 5 25:1" ∷
+    "6 RegPrim c1 g5 w0 p1@1{6,12,25} a0 v1/0{6,12,25}{6} y- r[] o[] x{} b0" ∷
+    "reply 6:1 done ? absent" ∷
     "= 18" ∷
-    "3 RegPrim c1 g1 w0 p1@1{1,2,3} a0 v1/0{1,2,3}{3} y- r[] o[] x{1} b0" ∷
+    "12 RegPrim c1 g5 w0 p1@1{6,12,25} a0 v1/0{6,12,25}{12} y- r[] o[] x{} b0" ∷
+    "reply 12:1 done ? absent" ∷
+    "reply 12:2 done" ∷
+    "reply 12:3 done" ∷
+    "= 19" ∷
+    "25 RegPrim c1 g5 w0 p1@1{6,12,25} a0 v1/0{6,12,25}{25} y- r[] o[] x{} b0" ∷
+    "reply 25:1 done" ∷
     "= 21" ∷
-    "made 2:1 need \"b\" absent" ∷
-    "2 RegPrim c1 g1 w0 p1@1{1,2,3} a0 v1/0{1,2,3}{2} y- r[] o[2:1] x{1} b0" ∷
-    "= 23" ∷
-    "order 2 2:1" ∷
-    "1 RegPrim c1 g2 w0 p1@1{1,2,3} a0 v1/0{1,2,3}{1} y- r[] o[] x{1} b0" ∷
+    "made 25:2 put \"z~\" 66" ∷
+    "25 RegPrim c1 g5 w0 p1@1{6,12,25} a0 v1/0{6,12,25}{25} y- r[] o[25:2] x{} b0" ∷
+    "= 22" ∷
+    "made 6:2 put \"z~\" 68" ∷
+    "6 RegPrim c1 g5 w0 p1@1{6,12,25} a0 v1/0{6,12,25}{6} y- r[] o[6:2] x{} b0" ∷
     "= 24" ∷
-    "2 RegPrim c1 g2 w0 p1@1{1,2,3} a0 v1/0{1,2,3}{2} y- r[] o[] x{1} b0" ∷
-    "reply 2:1 done" ∷
+    "order 6 6:2" ∷
+    "order 7 25:2" ∷
+    "6 RegPrim c1 g7 w0 p1@1{6,12,25} a0 v1/0{6,12,25}{6} y- r[] o[] x{} b0" ∷
+    "reply 6:2 done" ∷
     "= 25" ∷
-    "3 RegPrim c1 g2 w0 p1@1{1,2,3} a0 v1/0{1,2,3}{3} y- r[] o[] x{1} b0" ∷
+    "12 RegPrim c1 g7 w0 p1@1{6,12,25} a0 v1/0{6,12,25}{12} y- r[] o[] x{} b0" ∷
+    "= 26" ∷
+    "25 RegPrim c1 g7 w0 p1@1{6,12,25} a0 v1/0{6,12,25}{25} y- r[] o[] x{} b0" ∷
+    "reply 25:2 done" ∷
     "= 27" ∷
-    "1 TransPrim t1 g2 w0 p1@1{1,2,3} a0 v1/0{1,2,3}{1} y- r[] o[] x{1} b0" ∷
-    "2 TransPrim t1 g2 w0 p1@1{1,2,3} a0 v1/0{1,2,3}{2} y- r[] o[] x{1} b0" ∷
-    "3 TransPrim t1 g2 w0 p1@1{1,2,3} a0 v1/0{1,2,3}{3} y- r[] o[] x{1} b0" ∷
+    "made 12:4 inc \"it's\" -1 ? get \"a\"" ∷
+    "12 RegPrim c1 g7 w0 p1@1{6,12,25} a0 v1/0{6,12,25}{12} y- r[] o[12:4] x{} b0" ∷
     "= 28" ∷
-    "1 ExchangeStates c2 g2 w0 p1@1{1,2,3} a0 v- y![] r[] o[] x{1} b0" ∷
-    "2 ExchangeStates c2 g2 w0 p1@1{1,2,3} a0 v- y![] r[] o[] x{1} b0" ∷
-    "3 ExchangeStates c2 g2 w0 p1@1{1,2,3} a0 v- y![] r[] o[] x{1} b0" ∷
+    "made 25:3 inc \"z~\" 69" ∷
+    "25 RegPrim c1 g7 w0 p1@1{6,12,25} a0 v1/0{6,12,25}{25} y- r[] o[25:3] x{} b0" ∷
     "= 29" ∷
-    "3 ExchangeStates c2 g2 w0 p1@1{1,2,3} a0 v- y![] r[] o[] x{1} b1" ∷
-    "= 31" ∷
-    "1 Left c2 g2 w0 p1@1{1,2,3} a0 v- y![] r[] o[] x{1} b0" ∷
+    "made 12:5 inc \"z~\" 64" ∷
+    "12 RegPrim c1 g7 w0 p1@1{6,12,25} a0 v1/0{6,12,25}{12} y- r[] o[12:4,12:5] x{} b0" ∷
+    "= 30" ∷
+    "made 25:4 put \"a\" 9223372036854775806 ? get \"y\"" ∷
+    "25 RegPrim c1 g7 w0 p1@1{6,12,25} a0 v1/0{6,12,25}{25} y- r[] o[25:3,25:4] x{} b0" ∷
     "= 32" ∷
-    "2 Construct c2 g2 w0 p1@1{1,2,3} a1 v2/1{2,3}{2} y![] r[] o[] x{1} b0" ∷
+    "order 8 12:4" ∷
+    "order 9 12:5" ∷
+    "order 10 25:3" ∷
+    "order 11 25:4" ∷
+    "6 RegPrim c1 g11 w5 p1@1{6,12,25} a0 v1/0{6,12,25}{6} y- r[] o[] x{} b0" ∷
     "= 33" ∷
-    "3 Construct c2 g2 w0 p1@1{1,2,3} a1 v2/1{2,3}{3} y![] r[] o[] x{1} b1" ∷
+    "12 RegPrim c1 g11 w5 p1@1{6,12,25} a0 v1/0{6,12,25}{12} y- r[] o[] x{} b0" ∷
+    "reply 12:4 done ? absent" ∷
+    "reply 12:5 done" ∷
+    "= 34" ∷
+    "25 RegPrim c1 g11 w5 p1@1{6,12,25} a0 v1/0{6,12,25}{25} y- r[] o[] x{} b0" ∷
+    "reply 25:3 done" ∷
+    "reply 25:4 done ? 66" ∷
+    "= 35" ∷
+    "made 6:3 put \"long-key\" 73" ∷
+    "6 RegPrim c1 g11 w5 p1@1{6,12,25} a0 v1/0{6,12,25}{6} y- r[] o[6:3] x{} b0" ∷
     "= 36" ∷
-    "2 RegPrim c2 g2 w0 p2@2{2,3} a0 v2/1{2,3}{2} y- r[] o[] x{1} b0" ∷
+    "all [6:1,12:1,12:2,12:3,25:1,6:2,25:2,12:4,12:5,25:3,25:4]" ∷
     "= 37" ∷
-    "made 3:1 leave 1" ∷
-    "3 RegPrim c2 g2 w0 p2@2{2,3} a0 v2/1{2,3}{3} y- r[] o[3:1] x{1} b0" ∷
+    "made 12:6 put \"x\" 70" ∷
+    "12 RegPrim c1 g11 w5 p1@1{6,12,25} a0 v1/0{6,12,25}{12} y- r[] o[12:6] x{} b0" ∷
+    "= 39" ∷
+    "order 12 6:3" ∷
+    "order 13 12:6" ∷
+    "6 RegPrim c1 g13 w7 p1@1{6,12,25} a0 v1/0{6,12,25}{6} y- r[] o[] x{} b0" ∷
+    "reply 6:3 done" ∷
     "= 40" ∷
-    "order 3 3:1" ∷
-    "2 RegPrim c2 g3 w1 p2@2{2,3} a0 v2/1{2,3}{2} y- r[] o[] x{1} b0" ∷
+    "12 RegPrim c1 g13 w7 p1@1{6,12,25} a0 v1/0{6,12,25}{12} y- r[] o[] x{} b0" ∷
+    "reply 12:6 done" ∷
     "= 41" ∷
-    "3 RegPrim c2 g3 w1 p2@2{2,3} a0 v2/1{2,3}{3} y- r[] o[] x{1} b0" ∷
-    "reply 3:1 done" ∷
-    "= 42" ∷
-    "made 2:2 put \"b\" \"; ? #\"" ∷
-    "2 RegPrim c2 g3 w1 p2@2{2,3} a0 v2/1{2,3}{2} y- r[] o[2:2] x{1} b0" ∷
-    "= 45" ∷
-    "1 Left t2 g2 w0 p1@1{1,2,3} a0 v- y![] r[] o[] x{1} b0" ∷
-    "= 46" ∷
-    "3 TransPrim t2 g3 w1 p2@2{2,3} a0 v2/1{2,3}{3} y?[2:2] r[] o[] x{1} b0" ∷
-    "= 47" ∷
-    "made 2:3 inc \"a\" 2" ∷
-    "2 RegPrim c2 g3 w1 p2@2{2,3} a0 v2/1{2,3}{2} y- r[] o[2:2,2:3] x{1} b0" ∷
+    "25 RegPrim c1 g13 w7 p1@1{6,12,25} a0 v1/0{6,12,25}{25} y- r[] o[] x{} b0" ∷
     "= 48" ∷
-    "3 TransPrim t2 g3 w1 p2@2{2,3} a0 v2/1{2,3}{3} y?[2:2] r[] o[] x{1} b1" ∷
-    "= 49" ∷
-    "made 2:4 leave 2" ∷
-    "2 RegPrim c2 g3 w1 p2@2{2,3} a0 v2/1{2,3}{2} y- r[] o[2:2,2:3,2:4] x{1} b0" ∷
-    "= 50" ∷
-    "made 2:5 join 4" ∷
-    "2 RegPrim c2 g3 w1 p2@2{2,3} a0 v2/1{2,3}{2} y- r[] o[2:2,2:3,2:4,2:5] x{1} b0" ∷
+    "all [6:1,12:1,12:2,12:3,25:1,6:2,25:2,12:4,12:5,25:3,25:4,6:3,12:6]" ∷
+    "= 53" ∷
+    "made 25:5 put \"k1\" -9223372036854775807 ? get \"y\"" ∷
+    "25 RegPrim c1 g13 w7 p1@1{6,12,25} a0 v1/0{6,12,25}{25} y- r[] o[25:5] x{} b0" ∷
+    "= 54" ∷
+    "made 25:6 inc \"y\" 47" ∷
+    "25 RegPrim c1 g13 w7 p1@1{6,12,25} a0 v1/0{6,12,25}{25} y- r[] o[25:5,25:6] x{} b0" ∷
     "= 56" ∷
-    "made 2:6 inc \"y\" -3" ∷
-    "2 RegPrim c2 g3 w1 p2@2{2,3} a0 v2/1{2,3}{2} y- r[] o[2:2,2:3,2:4,2:5,2:6] x{1} b0" ∷
-    "= 59" ∷
-    "3 TransPrim t2 g3 w1 p2@2{2,3} a0 v2/1{2,3}{3} y?[2:2] r[] o[] x{1} b2" ∷
-    "= 62" ∷
-    "2 TransPrim t2 g3 w1 p2@2{2,3} a0 v2/1{2,3}{2} y?[2:2,2:3,2:4,2:5,2:6] r[] o[] x{1} b0" ∷
-    "= 63" ∷
-    "2 ExchangeStates c3 g3 w1 p2@2{2,3} a0 v- y![2:2,2:3,2:4,2:5,2:6] r[] o[] x{1} b0" ∷
-    "3 ExchangeStates c3 g3 w1 p2@2{2,3} a0 v- y![2:2] r[] o[] x{1} b2" ∷
+    "order 14 25:5" ∷
+    "order 15 25:6" ∷
+    "6 RegPrim c1 g15 w11 p1@1{6,12,25} a0 v1/0{6,12,25}{6} y- r[] o[] x{} b0" ∷
+    "= 57" ∷
+    "12 RegPrim c1 g15 w11 p1@1{6,12,25} a0 v1/0{6,12,25}{12} y- r[] o[] x{} b0" ∷
+    "= 58" ∷
+    "25 RegPrim c1 g15 w11 p1@1{6,12,25} a0 v1/0{6,12,25}{25} y- r[] o[] x{} b0" ∷
+    "reply 25:5 done ? 66" ∷
+    "reply 25:6 done" ∷
+    "= 64" ∷
+    "made 6:4 put \"k1\" 18" ∷
+    "6 RegPrim c1 g15 w11 p1@1{6,12,25} a0 v1/0{6,12,25}{6} y- r[] o[6:4] x{} b0" ∷
     "= 65" ∷
-    "2 ExchangeActions c3 g3 w1 p2@2{2,3} a0 v- y![2:2,2:3,2:4,2:5,2:6] r[] o[] x{1} b0" ∷
-    "= 66" ∷
-    "3 ExchangeActions c3 g3 w1 p2@2{2,3} a0 v- y![2:2] r[] o[] x{1} b2" ∷
+    "made 12:7 inc \"long-key\" -1 ? get \"y\"" ∷
+    "12 RegPrim c1 g15 w11 p1@1{6,12,25} a0 v1/0{6,12,25}{12} y- r[] o[12:7] x{} b0" ∷
+    "= 67" ∷
+    "order 16 6:4" ∷
+    "order 17 12:7" ∷
+    "6 RegPrim c1 g17 w13 p1@1{6,12,25} a0 v1/0{6,12,25}{6} y- r[] o[] x{} b0" ∷
+    "reply 6:4 done" ∷
     "= 68" ∷
-    "2 Construct c3 g3 w1 p2@2{2,3} a1 v3/2{2,3}{2} y![2:2] r[2:3,2:4,2:5,2:6] o[] x{1} b0" ∷
+    "12 RegPrim c1 g17 w13 p1@1{6,12,25} a0 v1/0{6,12,25}{12} y- r[] o[] x{} b0" ∷
+    "reply 12:7 done ? 113" ∷
     "= 69" ∷
-    "3 Construct c3 g3 w1 p2@2{2,3} a1 v3/2{2,3}{3} y![2:2] r[2:3,2:4,2:5,2:6] o[] x{1} b2" ∷
-    "= 71" ∷
-    "order 4 2:2" ∷
-    "order 5 2:3" ∷
-    "order 6 2:4" ∷
-    "order 7 2:5" ∷
-    "order 8 2:6" ∷
-    "2 RegPrim c3 g8 w2 p3@3{2,3} a0 v3/2{2,3}{2} y- r[] o[] x{1,2} b0" ∷
-    "reply 2:2 done" ∷
-    "reply 2:3 done" ∷
-    "reply 2:4 done" ∷
-    "reply 2:5 done" ∷
-    "reply 2:6 done" ∷
+    "25 RegPrim c1 g17 w13 p1@1{6,12,25} a0 v1/0{6,12,25}{25} y- r[] o[] x{} b0" ∷
     "= 72" ∷
-    "made 3:2 move \"b\" \"a\" 1" ∷
-    "made 3:3 join 20" ∷
-    "3 RegPrim c3 g8 w2 p3@3{2,3} a0 v3/2{2,3}{3} y- r[] o[3:2,3:3] x{1,2} b0" ∷
+    "made 6:5 inc \"it's\" 69 ? get \"y\"" ∷
+    "6 RegPrim c1 g17 w13 p1@1{6,12,25} a0 v1/0{6,12,25}{6} y- r[] o[6:5] x{} b0" ∷
     "= 73" ∷
-    "4 NonPrim - g8 w2 p3@3{2,3} a0 v- y- r[] o[] x{1,2} b0" ∷
-    "pieces 4 11/11" ∷
+    "made 6:6 put \"a\" 80 ? get \"long-key\"" ∷
+    "6 RegPrim c1 g17 w13 p1@1{6,12,25} a0 v1/0{6,12,25}{6} y- r[] o[6:5,6:6] x{} b0" ∷
     "= 74" ∷
-    "made 3:4 inc \"a\" -2; need \"k1\" 32" ∷
-    "3 RegPrim c3 g8 w2 p3@3{2,3} a0 v3/2{2,3}{3} y- r[] o[3:2,3:3,3:4] x{1,2} b0" ∷
+    "all [6:1,12:1,12:2,12:3,25:1,6:2,25:2,12:4,12:5,25:3,25:4,6:3,12:6,25:5,25:6,6:4,12:7]" ∷
     "= 75" ∷
-    "2 TransPrim t3 g8 w2 p3@3{2,3} a0 v3/2{2,3}{2} y- r[] o[] x{1,2} b0" ∷
-    "3 TransPrim t3 g8 w2 p3@3{2,3} a0 v3/2{2,3}{3} y- r[] o[3:2,3:3,3:4] x{1,2} b0" ∷
+    "made 6:7 put \"it's\" 32" ∷
+    "6 RegPrim c1 g17 w13 p1@1{6,12,25} a0 v1/0{6,12,25}{6} y- r[] o[6:5,6:6,6:7] x{} b0" ∷
     "= 76" ∷
-    "2 ExchangeStates c4 g8 w2 p3@3{2,3} a0 v- y![] r[] o[] x{1,2} b0" ∷
-    "3 ExchangeStates c4 g8 w2 p3@3{2,3} a0 v- y![] r[3:2,3:3,3:4] o[] x{1,2} b0" ∷
+    "all [6:1,12:1,12:2,12:3,25:1,6:2,25:2,12:4,12:5,25:3,25:4,6:3,12:6,25:5,25:6,6:4,12:7]" ∷
     "= 77" ∷
-    "2 ExchangeStates c4 g8 w2 p3@3{2,3} a0 v- y![] r[] o[] x{1,2} b1" ∷
+    "made 12:8 put \"long-key\" 82" ∷
+    "12 RegPrim c1 g17 w13 p1@1{6,12,25} a0 v1/0{6,12,25}{12} y- r[] o[12:8] x{} b0" ∷
     "= 79" ∷
-    "2 Left c4 g8 w2 p3@3{2,3} a0 v- y![] r[] o[] x{1,2} b0" ∷
+    "order 18 6:5" ∷
+    "order 19 6:6" ∷
+    "order 20 6:7" ∷
+    "order 21 12:8" ∷
+    "6 RegPrim c1 g21 w13 p1@1{6,12,25} a0 v1/0{6,12,25}{6} y- r[] o[] x{} b0" ∷
+    "reply 6:5 done ? 113" ∷
+    "reply 6:6 done ? 72" ∷
+    "reply 6:7 done" ∷
     "= 80" ∷
-    "3 NonPrim c4 g8 w2 p3@3{2,3} a0 v- y![] r[3:2,3:3,3:4] o[] x{1,2} b0" ∷
-    "= 82" ∷
-    "4 NonPrim - g8 w2 p3@3{2,3} a0 v- y- r[] o[] x{1,2} b1" ∷
-    "= 83" ∷
-    "made 3:5 leave 20" ∷
-    "3 NonPrim c4 g8 w2 p3@3{2,3} a0 v- y![] r[3:2,3:3,3:4] o[3:5] x{1,2} b0" ∷
-    "= 84" ∷
-    "made 3:6 put \"y\" 85; del \"b\"; put \"z\" 16; del \"x\"; inc \"a\" 7; inc \"z\" 7; inc \"abc\" -3; cas \"x\" 98 8; cas \"a\" absent -9223372036854775808; cas \"y\" absent 50; inc \"b\" 2; inc \"a\" 9; need \"x\" absent; put \"z\" 58; need \"z\" -7; put \"a\" -9223372036854775808" ∷
-    "3 NonPrim c4 g8 w2 p3@3{2,3} a0 v- y![] r[3:2,3:3,3:4] o[3:5,3:6] x{1,2} b0" ∷
+    "12 RegPrim c1 g21 w13 p1@1{6,12,25} a0 v1/0{6,12,25}{12} y- r[] o[] x{} b0" ∷
+    "reply 12:8 done" ∷
+    "= 81" ∷
+    "25 RegPrim c1 g21 w13 p1@1{6,12,25} a0 v1/0{6,12,25}{25} y- r[] o[] x{} b0" ∷
     "= 85" ∷
-    "4 NonPrim - g8 w2 p3@3{2,3} a0 v- y- r[] o[] x{1,2} b2" ∷
-    "= 86" ∷
-    "made 3:7 put \"b\" 77" ∷
-    "3 NonPrim c4 g8 w2 p3@3{2,3} a0 v- y![] r[3:2,3:3,3:4] o[3:5,3:6,3:7] x{1,2} b0" ∷
-    "end 87" ∷
+    "made 12:9 inc \"y\" 67" ∷
+    "12 RegPrim c1 g21 w13 p1@1{6,12,25} a0 v1/0{6,12,25}{12} y- r[] o[12:9] x{} b0" ∷
+    "= 87" ∷
+    "order 22 12:9" ∷
+    "6 RegPrim c1 g22 w13 p1@1{6,12,25} a0 v1/0{6,12,25}{6} y- r[] o[] x{} b0" ∷
+    "= 88" ∷
+    "12 RegPrim c1 g22 w13 p1@1{6,12,25} a0 v1/0{6,12,25}{12} y- r[] o[] x{} b0" ∷
+    "reply 12:9 done" ∷
+    "= 89" ∷
+    "25 RegPrim c1 g22 w13 p1@1{6,12,25} a0 v1/0{6,12,25}{25} y- r[] o[] x{} b0" ∷
+    "= 94" ∷
+    "made 12:10 put \"long-key\" 18" ∷
+    "12 RegPrim c1 g22 w13 p1@1{6,12,25} a0 v1/0{6,12,25}{12} y- r[] o[12:10] x{} b0" ∷
+    "= 95" ∷
+    "made 25:7 put \"it's\" 5" ∷
+    "25 RegPrim c1 g22 w13 p1@1{6,12,25} a0 v1/0{6,12,25}{25} y- r[] o[25:7] x{} b0" ∷
+    "= 96" ∷
+    "made 25:8 put \"long-key\" 10 ? get \"y\"" ∷
+    "25 RegPrim c1 g22 w13 p1@1{6,12,25} a0 v1/0{6,12,25}{25} y- r[] o[25:7,25:8] x{} b0" ∷
+    "= 98" ∷
+    "order 23 12:10" ∷
+    "order 24 25:7" ∷
+    "order 25 25:8" ∷
+    "6 RegPrim c1 g25 w17 p1@1{6,12,25} a0 v1/0{6,12,25}{6} y- r[] o[] x{} b0" ∷
+    "= 99" ∷
+    "12 RegPrim c1 g25 w17 p1@1{6,12,25} a0 v1/0{6,12,25}{12} y- r[] o[] x{} b0" ∷
+    "reply 12:10 done" ∷
+    "= 100" ∷
+    "25 RegPrim c1 g25 w17 p1@1{6,12,25} a0 v1/0{6,12,25}{25} y- r[] o[] x{} b0" ∷
+    "reply 25:7 done" ∷
+    "reply 25:8 done ? 180" ∷
+    "= 108" ∷
+    "made 25:9 put \"a\" 71" ∷
+    "25 RegPrim c1 g25 w17 p1@1{6,12,25} a0 v1/0{6,12,25}{25} y- r[] o[25:9] x{} b0" ∷
+    "= 109" ∷
+    "made 6:8 put \"it's\" 17" ∷
+    "6 RegPrim c1 g25 w17 p1@1{6,12,25} a0 v1/0{6,12,25}{6} y- r[] o[6:8] x{} b0" ∷
+    "= 110" ∷
+    "made 25:10 inc \"a\" -1 ? get \"x\"" ∷
+    "25 RegPrim c1 g25 w17 p1@1{6,12,25} a0 v1/0{6,12,25}{25} y- r[] o[25:9,25:10] x{} b0" ∷
+    "end 110" ∷
     [])
 unfolding cases_compute
-three_replicas_several_primaries_leaver_joiner_a_from_discarding = refl
+three_replicas_actions_ordered_a_from_discarding = refl
 
--- Replicas at the start: 3: yellow actions pass through an exchange.
-three_replicas_yellow_actions_a :
+-- Replicas at the start: 3: actions are ordered.
+three_replicas_actions_ordered_c :
+    replayed_text (
+    "start 16 19 32" ∷
+    "merge 16 19 32" ∷
+    "rounds 1" ∷
+    "request 19 del \"a\"?  count" ∷
+    "request 19 need \"y\" \"yes \\\"no\\\"\"" ∷
+    "rounds 3" ∷
+    "#" ∷
+    "end" ∷
+    [])
+    ≡ written (
+    "= 1" ∷
+    "16 NonPrim - g0 w0 p0@0{16,19,32} a0 v- y- r[] o[] x{} b0" ∷
+    "19 NonPrim - g0 w0 p0@0{16,19,32} a0 v- y- r[] o[] x{} b0" ∷
+    "32 NonPrim - g0 w0 p0@0{16,19,32} a0 v- y- r[] o[] x{} b0" ∷
+    "= 2" ∷
+    "16 ExchangeStates c1 g0 w0 p0@0{16,19,32} a0 v- y- r[] o[] x{} b0" ∷
+    "19 ExchangeStates c1 g0 w0 p0@0{16,19,32} a0 v- y- r[] o[] x{} b0" ∷
+    "32 ExchangeStates c1 g0 w0 p0@0{16,19,32} a0 v- y- r[] o[] x{} b0" ∷
+    "= 4" ∷
+    "16 Construct c1 g0 w0 p0@0{16,19,32} a1 v1/0{16,19,32}{16} y- r[] o[] x{} b0" ∷
+    "= 5" ∷
+    "19 Construct c1 g0 w0 p0@0{16,19,32} a1 v1/0{16,19,32}{19} y- r[] o[] x{} b0" ∷
+    "= 6" ∷
+    "32 Construct c1 g0 w0 p0@0{16,19,32} a1 v1/0{16,19,32}{32} y- r[] o[] x{} b0" ∷
+    "= 7" ∷
+    "19 Construct c1 g0 w0 p0@0{16,19,32} a1 v1/0{16,19,32}{19} y- r[] o[] x{} b1" ∷
+    "= 8" ∷
+    "19 Construct c1 g0 w0 p0@0{16,19,32} a1 v1/0{16,19,32}{19} y- r[] o[] x{} b2" ∷
+    "= 10" ∷
+    "16 RegPrim c1 g0 w0 p1@1{16,19,32} a0 v1/0{16,19,32}{16} y- r[] o[] x{} b0" ∷
+    "= 11" ∷
+    "made 19:1 del \"a\" ? count" ∷
+    "made 19:2 need \"y\" \"yes \\\"no\\\"\"" ∷
+    "19 RegPrim c1 g0 w0 p1@1{16,19,32} a0 v1/0{16,19,32}{19} y- r[] o[19:1,19:2] x{} b0" ∷
+    "= 12" ∷
+    "32 RegPrim c1 g0 w0 p1@1{16,19,32} a0 v1/0{16,19,32}{32} y- r[] o[] x{} b0" ∷
+    "= 14" ∷
+    "order 1 19:1" ∷
+    "order 2 19:2" ∷
+    "16 RegPrim c1 g2 w0 p1@1{16,19,32} a0 v1/0{16,19,32}{16} y- r[] o[] x{} b0" ∷
+    "= 15" ∷
+    "19 RegPrim c1 g2 w0 p1@1{16,19,32} a0 v1/0{16,19,32}{19} y- r[] o[] x{} b0" ∷
+    "reply 19:1 done ? count 0" ∷
+    "reply 19:2 aborted 1" ∷
+    "= 16" ∷
+    "32 RegPrim c1 g2 w0 p1@1{16,19,32} a0 v1/0{16,19,32}{32} y- r[] o[] x{} b0" ∷
+    "end 17" ∷
+    [])
+unfolding cases_compute
+three_replicas_actions_ordered_c = refl
+
+-- Replicas at the start: 3: actions are ordered; a crash strikes inside a device call.
+three_replicas_actions_ordered_crash_in_a_device_call_a :
     replayed_text (
     "start 1 2 3" ∷
     "merge 1 2 3" ∷
     "rounds 2" ∷
+    "request 3 ? get \"x\"" ∷
+    "fail 2 7" ∷
+    "order 3" ∷
+    "gather" ∷
+    "request 1 cas \"a\" absent 31 ? get \"ab\"" ∷
+    "request 3 inc \"x\" 6" ∷
     "rounds 3" ∷
-    "request 3 cas \"x\" 34 94" ∷
+    "request 1 put \"b\" 57 ? get \"a\"" ∷
+    "request 1 put \"x\" \"12\" ? get \"a\"" ∷
+    "request 3 inc \"y\" 4 ? count" ∷
+    "request 3 put \"b\" 79; cas \"x\" absent 0" ∷
     "gather" ∷
-    "deliver 2 1" ∷
-    "split 3" ∷
-    "merge 3" ∷
-    "request 2 del \"x\"" ∷
-    "deliver 1 1" ∷
-    "request 1 inc \"y\" 7 ? get \"y\"" ∷
-    "gather" ∷
-    "deliver 3 1" ∷
-    "show 1" ∷
+    "stop 1 16 -" ∷
+    "recover 2" ∷
+    "request 3 put \"abc\" 40; inc \"a\" 6; cas \"z\" absent 9223372036854775806; put \"a\" 87; inc \"y\" 8; put \"x\" \"-1\"; need \"x\" 27; need \"z\" 92; cas \"z\" absent 13; inc \"k1\" 9223372036854775807; put \"ab\" \"hi\"; inc \"k1\" 2; inc \"a\" 7; cas \"a\" 25 9; inc \"y\" 9223372036854775807; put \"y\" -6" ∷
+    "request 3 need \"y\" 17" ∷
     "gather" ∷
     "gather" ∷
-    "split 2" ∷
-    "merge 2" ∷
+    "request 2 cas \"a\" 44 70 ? count" ∷
+    "request 1 ? get \"a\"" ∷
+    "rounds 1" ∷
+    "request 1 del \"b\" ? get \"z\"" ∷
+    "stop 2 2 02" ∷
+    "order 1" ∷
     "gather" ∷
-    "deliver 2 1" ∷
-    "request 2 put \"a\" \"hi\" ? keys \"\"" ∷
-    "request 2 put \"a\" 42 ? count" ∷
-    "gather" ∷
-    "split 1" ∷
-    "merge 1" ∷
-    "request 3 need \"b\" -9223372036854775807; cas \"x\" 19 34; cas \"b\" absent 39" ∷
-    "request 1 ? get \"y\"" ∷
-    "gather" ∷
+    "request 1 ? get \"a\"" ∷
     "end" ∷
     [])
     ≡ written (
@@ -269,371 +393,95 @@ three_replicas_yellow_actions_a :
     "2 RegPrim c1 g0 w0 p1@1{1,2,3} a0 v1/0{1,2,3}{2} y- r[] o[] x{} b0" ∷
     "= 10" ∷
     "3 RegPrim c1 g0 w0 p1@1{1,2,3} a0 v1/0{1,2,3}{3} y- r[] o[] x{} b0" ∷
-    "= 14" ∷
-    "made 3:1 cas \"x\" 34 94" ∷
+    "= 11" ∷
+    "made 3:1 ? get \"x\"" ∷
     "3 RegPrim c1 g0 w0 p1@1{1,2,3} a0 v1/0{1,2,3}{3} y- r[] o[3:1] x{} b0" ∷
-    "= 16" ∷
-    "order 1 3:1" ∷
-    "2 RegPrim c1 g1 w0 p1@1{1,2,3} a0 v1/0{1,2,3}{2} y- r[] o[] x{} b0" ∷
-    "= 17" ∷
-    "3 TransPrim t1 g0 w0 p1@1{1,2,3} a0 v1/0{1,2,3}{3} y?[3:1] r[] o[] x{} b0" ∷
-    "= 18" ∷
-    "3 ExchangeStates c2 g0 w0 p1@1{1,2,3} a0 v- y![3:1] r[] o[] x{} b0" ∷
-    "= 19" ∷
-    "made 2:1 del \"x\"" ∷
-    "2 RegPrim c1 g1 w0 p1@1{1,2,3} a0 v1/0{1,2,3}{2} y- r[] o[2:1] x{} b0" ∷
-    "= 20" ∷
-    "1 RegPrim c1 g1 w0 p1@1{1,2,3} a0 v1/0{1,2,3}{1} y- r[] o[] x{} b0" ∷
-    "= 21" ∷
-    "made 1:1 inc \"y\" 7 ? get \"y\"" ∷
-    "1 RegPrim c1 g1 w0 p1@1{1,2,3} a0 v1/0{1,2,3}{1} y- r[] o[1:1] x{} b0" ∷
-    "= 23" ∷
-    "3 NonPrim c2 g0 w0 p1@1{1,2,3} a0 v- y![3:1] r[] o[] x{} b0" ∷
-    "= 24" ∷
-    "greens 1 [3:1]" ∷
-    "db 1" ∷
-    "= 27" ∷
-    "2 TransPrim t1 g1 w0 p1@1{1,2,3} a0 v1/0{1,2,3}{2} y?[1:1,2:1] r[] o[] x{} b0" ∷
-    "= 28" ∷
-    "2 ExchangeStates c3 g1 w0 p1@1{1,2,3} a0 v- y![1:1,2:1] r[] o[] x{} b0" ∷
-    "= 30" ∷
-    "2 NonPrim c3 g1 w0 p1@1{1,2,3} a0 v- y![1:1,2:1] r[] o[] x{} b0" ∷
-    "= 31" ∷
-    "made 2:2 put \"a\" \"hi\" ? keys \"\"" ∷
-    "2 NonPrim c3 g1 w0 p1@1{1,2,3} a0 v- y![1:1,2:1] r[] o[2:2] x{} b0" ∷
-    "= 32" ∷
-    "made 2:3 put \"a\" 42 ? count" ∷
-    "2 NonPrim c3 g1 w0 p1@1{1,2,3} a0 v- y![1:1,2:1] r[] o[2:2,2:3] x{} b0" ∷
-    "= 34" ∷
-    "1 TransPrim t1 g1 w0 p1@1{1,2,3} a0 v1/0{1,2,3}{1} y?[1:1,2:1] r[] o[] x{} b0" ∷
-    "= 35" ∷
-    "1 ExchangeStates c4 g1 w0 p1@1{1,2,3} a0 v- y![1:1,2:1] r[] o[] x{} b0" ∷
-    "= 36" ∷
-    "made 3:2 need \"b\" -9223372036854775807; cas \"x\" 19 34; cas \"b\" absent 39" ∷
-    "3 NonPrim c2 g0 w0 p1@1{1,2,3} a0 v- y![3:1] r[] o[3:2] x{} b0" ∷
-    "= 37" ∷
-    "1 ExchangeStates c4 g1 w0 p1@1{1,2,3} a0 v- y![1:1,2:1] r[] o[] x{} b1" ∷
-    "end 38" ∷
-    [])
-unfolding cases_compute
-three_replicas_yellow_actions_a = refl
-
--- Of members with equal green counts the lowest is the most updated.
-tie_of_green_counts_goes_to_the_lowest_a :
-    replayed_text (
-    "start 6 7 19 28 31" ∷
-    "merge 6 28 31" ∷
-    "merge 7 19" ∷
-    "request 28 put \"k1\" 9223372036854775806" ∷
-    "rounds 3" ∷
-    "split 6 28" ∷
-    "split 7 19" ∷
-    "merge 6 7 19 28" ∷
-    "gather" ∷
-    "deliver 28 1" ∷
-    "deliver 28 3" ∷
-    "rounds 2" ∷
-    "end" ∷
-    [])
-    ≡ written (
-    "= 1" ∷
-    "6 NonPrim - g0 w0 p0@0{6,7,19,28,31} a0 v- y- r[] o[] x{} b0" ∷
-    "7 NonPrim - g0 w0 p0@0{6,7,19,28,31} a0 v- y- r[] o[] x{} b0" ∷
-    "19 NonPrim - g0 w0 p0@0{6,7,19,28,31} a0 v- y- r[] o[] x{} b0" ∷
-    "28 NonPrim - g0 w0 p0@0{6,7,19,28,31} a0 v- y- r[] o[] x{} b0" ∷
-    "31 NonPrim - g0 w0 p0@0{6,7,19,28,31} a0 v- y- r[] o[] x{} b0" ∷
-    "= 2" ∷
-    "6 ExchangeStates c1 g0 w0 p0@0{6,7,19,28,31} a0 v- y- r[] o[] x{} b0" ∷
-    "28 ExchangeStates c1 g0 w0 p0@0{6,7,19,28,31} a0 v- y- r[] o[] x{} b0" ∷
-    "31 ExchangeStates c1 g0 w0 p0@0{6,7,19,28,31} a0 v- y- r[] o[] x{} b0" ∷
-    "= 3" ∷
-    "7 ExchangeStates c2 g0 w0 p0@0{6,7,19,28,31} a0 v- y- r[] o[] x{} b0" ∷
-    "19 ExchangeStates c2 g0 w0 p0@0{6,7,19,28,31} a0 v- y- r[] o[] x{} b0" ∷
-    "= 4" ∷
-    "28 ExchangeStates c1 g0 w0 p0@0{6,7,19,28,31} a0 v- y- r[] o[] x{} b1" ∷
-    "= 6" ∷
-    "6 Construct c1 g0 w0 p0@0{6,7,19,28,31} a1 v1/0{6,28,31}{6} y- r[] o[] x{} b0" ∷
-    "= 7" ∷
-    "7 NonPrim c2 g0 w0 p0@0{6,7,19,28,31} a0 v- y- r[] o[] x{} b0" ∷
-    "= 8" ∷
-    "19 NonPrim c2 g0 w0 p0@0{6,7,19,28,31} a0 v- y- r[] o[] x{} b0" ∷
-    "= 9" ∷
-    "28 Construct c1 g0 w0 p0@0{6,7,19,28,31} a1 v1/0{6,28,31}{28} y- r[] o[] x{} b1" ∷
-    "= 10" ∷
-    "31 Construct c1 g0 w0 p0@0{6,7,19,28,31} a1 v1/0{6,28,31}{31} y- r[] o[] x{} b0" ∷
-    "= 12" ∷
-    "6 RegPrim c1 g0 w0 p1@1{6,28,31} a0 v1/0{6,28,31}{6} y- r[] o[] x{} b0" ∷
-    "= 13" ∷
-    "made 28:1 put \"k1\" 9223372036854775806" ∷
-    "28 RegPrim c1 g0 w0 p1@1{6,28,31} a0 v1/0{6,28,31}{28} y- r[] o[28:1] x{} b0" ∷
-    "= 14" ∷
-    "31 RegPrim c1 g0 w0 p1@1{6,28,31} a0 v1/0{6,28,31}{31} y- r[] o[] x{} b0" ∷
-    "= 16" ∷
-    "order 1 28:1" ∷
-    "6 RegPrim c1 g1 w0 p1@1{6,28,31} a0 v1/0{6,28,31}{6} y- r[] o[] x{} b0" ∷
-    "= 17" ∷
-    "28 RegPrim c1 g1 w0 p1@1{6,28,31} a0 v1/0{6,28,31}{28} y- r[] o[] x{} b0" ∷
-    "reply 28:1 done" ∷
-    "= 18" ∷
-    "31 RegPrim c1 g1 w0 p1@1{6,28,31} a0 v1/0{6,28,31}{31} y- r[] o[] x{} b0" ∷
-    "= 19" ∷
-    "6 TransPrim t1 g1 w0 p1@1{6,28,31} a0 v1/0{6,28,31}{6} y- r[] o[] x{} b0" ∷
-    "28 TransPrim t1 g1 w0 p1@1{6,28,31} a0 v1/0{6,28,31}{28} y- r[] o[] x{} b0" ∷
-    "= 20" ∷
-    "7 NonPrim t2 g0 w0 p0@0{6,7,19,28,31} a0 v- y- r[] o[] x{} b0" ∷
-    "19 NonPrim t2 g0 w0 p0@0{6,7,19,28,31} a0 v- y- r[] o[] x{} b0" ∷
-    "= 21" ∷
-    "6 ExchangeStates c3 g1 w0 p1@1{6,28,31} a0 v- y![] r[] o[] x{} b0" ∷
-    "7 ExchangeStates c3 g0 w0 p0@0{6,7,19,28,31} a0 v- y- r[] o[] x{} b0" ∷
-    "19 ExchangeStates c3 g0 w0 p0@0{6,7,19,28,31} a0 v- y- r[] o[] x{} b0" ∷
-    "28 ExchangeStates c3 g1 w0 p1@1{6,28,31} a0 v- y![] r[] o[] x{} b0" ∷
-    "= 24" ∷
-    "28 ExchangeActions c3 g1 w0 p1@1{6,28,31} a0 v- y![] r[] o[] x{} b0" ∷
-    "= 26" ∷
-    "6 ExchangeActions c3 g1 w0 p1@1{6,28,31} a0 v- y![] r[] o[] x{} b0" ∷
-    "= 27" ∷
-    "7 ExchangeActions c3 g0 w0 p0@0{6,7,19,28,31} a0 v- y- r[] o[] x{} b0" ∷
-    "= 28" ∷
-    "19 ExchangeActions c3 g0 w0 p0@0{6,7,19,28,31} a0 v- y- r[] o[] x{} b0" ∷
-    "= 30" ∷
-    "6 Construct c3 g1 w0 p1@1{6,28,31} a1 v3/1{6,7,19,28}{6} y![] r[] o[] x{} b0" ∷
-    "= 31" ∷
-    "7 Construct c3 g1 w0 p1@1{6,28,31} a1 v3/1{6,7,19,28}{7} y![] r[] o[] x{} b0" ∷
-    "= 32" ∷
-    "19 Construct c3 g1 w0 p1@1{6,28,31} a1 v3/1{6,7,19,28}{19} y![] r[] o[] x{} b0" ∷
-    "= 33" ∷
-    "28 Construct c3 g1 w0 p1@1{6,28,31} a1 v3/1{6,7,19,28}{28} y![] r[] o[] x{} b0" ∷
-    "end 33" ∷
-    [])
-unfolding cases_compute
-tie_of_green_counts_goes_to_the_lowest_a = refl
-
--- Of members with equal green counts the lowest is the most updated.
-tie_of_green_counts_goes_to_the_lowest_b :
-    replayed_text (
-    "start 1 2 3 4" ∷
-    "merge 1 2 3 4" ∷
-    "split 2 3 4" ∷
-    "split 1" ∷
-    "merge 1" ∷
-    "merge 2 3 4" ∷
-    "join 4 11" ∷
-    "rounds 2" ∷
-    "join 2 5" ∷
-    "gather" ∷
-    "deliver 4 2" ∷
-    "split 2 3 4" ∷
-    "split 1" ∷
-    "merge 1 2 3 4" ∷
-    "gather" ∷
-    "deliver 4 4" ∷
-    "rounds 1" ∷
-    "end" ∷
-    [])
-    ≡ written (
-    "= 1" ∷
-    "1 NonPrim - g0 w0 p0@0{1,2,3,4} a0 v- y- r[] o[] x{} b0" ∷
-    "2 NonPrim - g0 w0 p0@0{1,2,3,4} a0 v- y- r[] o[] x{} b0" ∷
-    "3 NonPrim - g0 w0 p0@0{1,2,3,4} a0 v- y- r[] o[] x{} b0" ∷
-    "4 NonPrim - g0 w0 p0@0{1,2,3,4} a0 v- y- r[] o[] x{} b0" ∷
-    "= 2" ∷
-    "1 ExchangeStates c1 g0 w0 p0@0{1,2,3,4} a0 v- y- r[] o[] x{} b0" ∷
-    "2 ExchangeStates c1 g0 w0 p0@0{1,2,3,4} a0 v- y- r[] o[] x{} b0" ∷
-    "3 ExchangeStates c1 g0 w0 p0@0{1,2,3,4} a0 v- y- r[] o[] x{} b0" ∷
-    "4 ExchangeStates c1 g0 w0 p0@0{1,2,3,4} a0 v- y- r[] o[] x{} b0" ∷
-    "= 3" ∷
-    "2 NonPrim t1 g0 w0 p0@0{1,2,3,4} a0 v- y- r[] o[] x{} b0" ∷
-    "3 NonPrim t1 g0 w0 p0@0{1,2,3,4} a0 v- y- r[] o[] x{} b0" ∷
-    "4 NonPrim t1 g0 w0 p0@0{1,2,3,4} a0 v- y- r[] o[] x{} b0" ∷
-    "= 4" ∷
-    "1 NonPrim t1 g0 w0 p0@0{1,2,3,4} a0 v- y- r[] o[] x{} b0" ∷
-    "= 5" ∷
-    "1 ExchangeStates c2 g0 w0 p0@0{1,2,3,4} a0 v- y- r[] o[] x{} b0" ∷
-    "= 6" ∷
-    "2 ExchangeStates c3 g0 w0 p0@0{1,2,3,4} a0 v- y- r[] o[] x{} b0" ∷
-    "3 ExchangeStates c3 g0 w0 p0@0{1,2,3,4} a0 v- y- r[] o[] x{} b0" ∷
-    "4 ExchangeStates c3 g0 w0 p0@0{1,2,3,4} a0 v- y- r[] o[] x{} b0" ∷
-    "= 7" ∷
-    "4 ExchangeStates c3 g0 w0 p0@0{1,2,3,4} a0 v- y- r[] o[] x{} b1" ∷
-    "= 9" ∷
-    "1 NonPrim c2 g0 w0 p0@0{1,2,3,4} a0 v- y- r[] o[] x{} b0" ∷
-    "= 10" ∷
-    "2 Construct c3 g0 w0 p0@0{1,2,3,4} a1 v3/0{2,3,4}{2} y- r[] o[] x{} b0" ∷
-    "= 11" ∷
-    "3 Construct c3 g0 w0 p0@0{1,2,3,4} a1 v3/0{2,3,4}{3} y- r[] o[] x{} b0" ∷
-    "= 12" ∷
-    "4 Construct c3 g0 w0 p0@0{1,2,3,4} a1 v3/0{2,3,4}{4} y- r[] o[] x{} b1" ∷
-    "= 14" ∷
-    "2 RegPrim c3 g0 w0 p1@3{2,3,4} a0 v3/0{2,3,4}{2} y- r[] o[] x{} b0" ∷
     "= 15" ∷
-    "3 RegPrim c3 g0 w0 p1@3{2,3,4} a0 v3/0{2,3,4}{3} y- r[] o[] x{} b0" ∷
+    "made 1:1 cas \"a\" absent 31 ? get \"ab\"" ∷
+    "1 RegPrim c1 g0 w0 p1@1{1,2,3} a0 v1/0{1,2,3}{1} y- r[] o[1:1] x{} b0" ∷
     "= 16" ∷
-    "made 4:1 join 11" ∷
-    "4 RegPrim c3 g0 w0 p1@3{2,3,4} a0 v3/0{2,3,4}{4} y- r[] o[4:1] x{} b0" ∷
-    "= 17" ∷
-    "made 2:1 join 5" ∷
-    "2 RegPrim c3 g0 w0 p1@3{2,3,4} a0 v3/0{2,3,4}{2} y- r[] o[2:1] x{} b0" ∷
-    "= 19" ∷
-    "order 1 2:1" ∷
-    "order 2 4:1" ∷
-    "4 RegPrim c3 g2 w0 p1@3{2,3,4} a0 v3/0{2,3,4}{4} y- r[] o[] x{} b0" ∷
-    "reply 4:1 done" ∷
-    "= 20" ∷
-    "2 TransPrim t3 g2 w0 p1@3{2,3,4} a0 v3/0{2,3,4}{2} y- r[] o[] x{} b0" ∷
-    "3 TransPrim t3 g2 w0 p1@3{2,3,4} a0 v3/0{2,3,4}{3} y- r[] o[] x{} b0" ∷
-    "4 TransPrim t3 g2 w0 p1@3{2,3,4} a0 v3/0{2,3,4}{4} y- r[] o[] x{} b0" ∷
-    "reply 2:1 done" ∷
-    "= 21" ∷
-    "1 NonPrim t2 g0 w0 p0@0{1,2,3,4} a0 v- y- r[] o[] x{} b0" ∷
-    "= 22" ∷
-    "1 ExchangeStates c4 g0 w0 p0@0{1,2,3,4} a0 v- y- r[] o[] x{} b0" ∷
-    "2 ExchangeStates c4 g2 w0 p1@3{2,3,4} a0 v- y![] r[] o[] x{} b0" ∷
-    "3 ExchangeStates c4 g2 w0 p1@3{2,3,4} a0 v- y![] r[] o[] x{} b0" ∷
-    "4 ExchangeStates c4 g2 w0 p1@3{2,3,4} a0 v- y![] r[] o[] x{} b0" ∷
-    "= 24" ∷
-    "4 ExchangeActions c4 g2 w0 p1@3{2,3,4} a0 v- y![] r[] o[] x{} b0" ∷
-    "= 26" ∷
-    "1 ExchangeActions c4 g0 w0 p0@0{1,2,3,4} a0 v- y- r[] o[] x{} b0" ∷
-    "= 27" ∷
-    "2 ExchangeActions c4 g2 w0 p1@3{2,3,4} a0 v- y![] r[] o[] x{} b0" ∷
-    "= 28" ∷
-    "3 ExchangeActions c4 g2 w0 p1@3{2,3,4} a0 v- y![] r[] o[] x{} b0" ∷
-    "end 28" ∷
-    [])
-unfolding cases_compute
-tie_of_green_counts_goes_to_the_lowest_b = refl
-
--- Of members with equal green counts the lowest is the most updated.
-tie_of_green_counts_goes_to_the_lowest_c :
-    replayed_text (
-    "start 2 3 12 19 23 24 25 31" ∷
-    "merge 2 3 12 19 23 24 25 31" ∷
-    "split 2 3 23 24 31" ∷
-    "merge 2 3 23 24 31" ∷
-    "stop 19 0 0101" ∷
-    "join 3 28" ∷
-    "rounds 1" ∷
-    "rounds 2" ∷
-    "transfer 24 28 9" ∷
-    "recover 19" ∷
-    "split 2 3 31" ∷
-    "merge 2 3 19 28 31" ∷
-    "gather" ∷
-    "deliver 2 5" ∷
-    "rounds 1" ∷
-    "end" ∷
-    [])
-    ≡ written (
-    "= 1" ∷
-    "2 NonPrim - g0 w0 p0@0{2,3,12,19,23,24,25,31} a0 v- y- r[] o[] x{} b0" ∷
-    "3 NonPrim - g0 w0 p0@0{2,3,12,19,23,24,25,31} a0 v- y- r[] o[] x{} b0" ∷
-    "12 NonPrim - g0 w0 p0@0{2,3,12,19,23,24,25,31} a0 v- y- r[] o[] x{} b0" ∷
-    "19 NonPrim - g0 w0 p0@0{2,3,12,19,23,24,25,31} a0 v- y- r[] o[] x{} b0" ∷
-    "23 NonPrim - g0 w0 p0@0{2,3,12,19,23,24,25,31} a0 v- y- r[] o[] x{} b0" ∷
-    "24 NonPrim - g0 w0 p0@0{2,3,12,19,23,24,25,31} a0 v- y- r[] o[] x{} b0" ∷
-    "25 NonPrim - g0 w0 p0@0{2,3,12,19,23,24,25,31} a0 v- y- r[] o[] x{} b0" ∷
-    "31 NonPrim - g0 w0 p0@0{2,3,12,19,23,24,25,31} a0 v- y- r[] o[] x{} b0" ∷
-    "= 2" ∷
-    "2 ExchangeStates c1 g0 w0 p0@0{2,3,12,19,23,24,25,31} a0 v- y- r[] o[] x{} b0" ∷
-    "3 ExchangeStates c1 g0 w0 p0@0{2,3,12,19,23,24,25,31} a0 v- y- r[] o[] x{} b0" ∷
-    "12 ExchangeStates c1 g0 w0 p0@0{2,3,12,19,23,24,25,31} a0 v- y- r[] o[] x{} b0" ∷
-    "19 ExchangeStates c1 g0 w0 p0@0{2,3,12,19,23,24,25,31} a0 v- y- r[] o[] x{} b0" ∷
-    "23 ExchangeStates c1 g0 w0 p0@0{2,3,12,19,23,24,25,31} a0 v- y- r[] o[] x{} b0" ∷
-    "24 ExchangeStates c1 g0 w0 p0@0{2,3,12,19,23,24,25,31} a0 v- y- r[] o[] x{} b0" ∷
-    "25 ExchangeStates c1 g0 w0 p0@0{2,3,12,19,23,24,25,31} a0 v- y- r[] o[] x{} b0" ∷
-    "31 ExchangeStates c1 g0 w0 p0@0{2,3,12,19,23,24,25,31} a0 v- y- r[] o[] x{} b0" ∷
-    "= 3" ∷
-    "2 NonPrim t1 g0 w0 p0@0{2,3,12,19,23,24,25,31} a0 v- y- r[] o[] x{} b0" ∷
-    "3 NonPrim t1 g0 w0 p0@0{2,3,12,19,23,24,25,31} a0 v- y- r[] o[] x{} b0" ∷
-    "23 NonPrim t1 g0 w0 p0@0{2,3,12,19,23,24,25,31} a0 v- y- r[] o[] x{} b0" ∷
-    "24 NonPrim t1 g0 w0 p0@0{2,3,12,19,23,24,25,31} a0 v- y- r[] o[] x{} b0" ∷
-    "31 NonPrim t1 g0 w0 p0@0{2,3,12,19,23,24,25,31} a0 v- y- r[] o[] x{} b0" ∷
-    "= 4" ∷
-    "2 ExchangeStates c2 g0 w0 p0@0{2,3,12,19,23,24,25,31} a0 v- y- r[] o[] x{} b0" ∷
-    "3 ExchangeStates c2 g0 w0 p0@0{2,3,12,19,23,24,25,31} a0 v- y- r[] o[] x{} b0" ∷
-    "23 ExchangeStates c2 g0 w0 p0@0{2,3,12,19,23,24,25,31} a0 v- y- r[] o[] x{} b0" ∷
-    "24 ExchangeStates c2 g0 w0 p0@0{2,3,12,19,23,24,25,31} a0 v- y- r[] o[] x{} b0" ∷
-    "31 ExchangeStates c2 g0 w0 p0@0{2,3,12,19,23,24,25,31} a0 v- y- r[] o[] x{} b0" ∷
-    "= 5" ∷
-    "19 Down" ∷
-    "= 6" ∷
-    "3 ExchangeStates c2 g0 w0 p0@0{2,3,12,19,23,24,25,31} a0 v- y- r[] o[] x{} b1" ∷
-    "= 8" ∷
-    "2 Construct c2 g0 w0 p0@0{2,3,12,19,23,24,25,31} a1 v2/0{2,3,23,24,31}{2} y- r[] o[] x{} b0" ∷
-    "= 9" ∷
-    "3 Construct c2 g0 w0 p0@0{2,3,12,19,23,24,25,31} a1 v2/0{2,3,23,24,31}{3} y- r[] o[] x{} b1" ∷
-    "= 10" ∷
-    "23 Construct c2 g0 w0 p0@0{2,3,12,19,23,24,25,31} a1 v2/0{2,3,23,24,31}{23} y- r[] o[] x{} b0" ∷
-    "= 11" ∷
-    "24 Construct c2 g0 w0 p0@0{2,3,12,19,23,24,25,31} a1 v2/0{2,3,23,24,31}{24} y- r[] o[] x{} b0" ∷
-    "= 12" ∷
-    "31 Construct c2 g0 w0 p0@0{2,3,12,19,23,24,25,31} a1 v2/0{2,3,23,24,31}{31} y- r[] o[] x{} b0" ∷
-    "= 14" ∷
-    "2 RegPrim c2 g0 w0 p1@2{2,3,23,24,31} a0 v2/0{2,3,23,24,31}{2} y- r[] o[] x{} b0" ∷
-    "= 15" ∷
-    "made 3:1 join 28" ∷
-    "3 RegPrim c2 g0 w0 p1@2{2,3,23,24,31} a0 v2/0{2,3,23,24,31}{3} y- r[] o[3:1] x{} b0" ∷
-    "= 16" ∷
-    "23 RegPrim c2 g0 w0 p1@2{2,3,23,24,31} a0 v2/0{2,3,23,24,31}{23} y- r[] o[] x{} b0" ∷
-    "= 17" ∷
-    "24 RegPrim c2 g0 w0 p1@2{2,3,23,24,31} a0 v2/0{2,3,23,24,31}{24} y- r[] o[] x{} b0" ∷
+    "made 3:2 inc \"x\" 6" ∷
+    "3 RegPrim c1 g0 w0 p1@1{1,2,3} a0 v1/0{1,2,3}{3} y- r[] o[3:1,3:2] x{} b0" ∷
     "= 18" ∷
-    "31 RegPrim c2 g0 w0 p1@2{2,3,23,24,31} a0 v2/0{2,3,23,24,31}{31} y- r[] o[] x{} b0" ∷
-    "= 20" ∷
     "order 1 3:1" ∷
-    "2 RegPrim c2 g1 w0 p1@2{2,3,23,24,31} a0 v2/0{2,3,23,24,31}{2} y- r[] o[] x{} b0" ∷
-    "= 21" ∷
-    "3 RegPrim c2 g1 w0 p1@2{2,3,23,24,31} a0 v2/0{2,3,23,24,31}{3} y- r[] o[] x{} b0" ∷
-    "reply 3:1 done" ∷
-    "= 22" ∷
-    "23 RegPrim c2 g1 w0 p1@2{2,3,23,24,31} a0 v2/0{2,3,23,24,31}{23} y- r[] o[] x{} b0" ∷
+    "order 2 1:1" ∷
+    "order 3 3:2" ∷
+    "1 RegPrim c1 g3 w0 p1@1{1,2,3} a0 v1/0{1,2,3}{1} y- r[] o[] x{} b0" ∷
+    "reply 1:1 done ? absent" ∷
+    "= 19" ∷
+    "2 RegPrim c1 g3 w0 p1@1{1,2,3} a0 v1/0{1,2,3}{2} y- r[] o[] x{} b0" ∷
+    "= 20" ∷
+    "3 RegPrim c1 g3 w0 p1@1{1,2,3} a0 v1/0{1,2,3}{3} y- r[] o[] x{} b0" ∷
+    "reply 3:1 done ? absent" ∷
+    "reply 3:2 done" ∷
     "= 23" ∷
-    "24 RegPrim c2 g1 w0 p1@2{2,3,23,24,31} a0 v2/0{2,3,23,24,31}{24} y- r[] o[] x{} b0" ∷
+    "made 1:2 put \"b\" 57 ? get \"a\"" ∷
+    "1 RegPrim c1 g3 w0 p1@1{1,2,3} a0 v1/0{1,2,3}{1} y- r[] o[1:2] x{} b0" ∷
     "= 24" ∷
-    "31 RegPrim c2 g1 w0 p1@2{2,3,23,24,31} a0 v2/0{2,3,23,24,31}{31} y- r[] o[] x{} b0" ∷
+    "made 1:3 put \"x\" \"12\" ? get \"a\"" ∷
+    "1 RegPrim c1 g3 w0 p1@1{1,2,3} a0 v1/0{1,2,3}{1} y- r[] o[1:2,1:3] x{} b0" ∷
     "= 25" ∷
-    "28 NonPrim - g1 w0 p1@2{2,3,23,24,31} a0 v- y- r[] o[] x{} b0" ∷
-    "pieces 28 3/3" ∷
+    "made 3:3 inc \"y\" 4 ? count" ∷
+    "3 RegPrim c1 g3 w0 p1@1{1,2,3} a0 v1/0{1,2,3}{3} y- r[] o[3:3] x{} b0" ∷
     "= 26" ∷
-    "19 NonPrim - g0 w0 p0@0{2,3,12,19,23,24,25,31} a0 v- y- r[] o[] x{} b0" ∷
-    "= 27" ∷
-    "2 TransPrim t2 g1 w0 p1@2{2,3,23,24,31} a0 v2/0{2,3,23,24,31}{2} y- r[] o[] x{} b0" ∷
-    "3 TransPrim t2 g1 w0 p1@2{2,3,23,24,31} a0 v2/0{2,3,23,24,31}{3} y- r[] o[] x{} b0" ∷
-    "31 TransPrim t2 g1 w0 p1@2{2,3,23,24,31} a0 v2/0{2,3,23,24,31}{31} y- r[] o[] x{} b0" ∷
-    "= 28" ∷
-    "2 ExchangeStates c3 g1 w0 p1@2{2,3,23,24,31} a0 v- y![] r[] o[] x{} b0" ∷
-    "3 ExchangeStates c3 g1 w0 p1@2{2,3,23,24,31} a0 v- y![] r[] o[] x{} b0" ∷
-    "19 ExchangeStates c3 g0 w0 p0@0{2,3,12,19,23,24,25,31} a0 v- y- r[] o[] x{} b0" ∷
-    "28 ExchangeStates c3 g1 w0 p1@2{2,3,23,24,31} a0 v- y- r[] o[] x{} b0" ∷
-    "31 ExchangeStates c3 g1 w0 p1@2{2,3,23,24,31} a0 v- y![] r[] o[] x{} b0" ∷
-    "= 30" ∷
-    "2 ExchangeActions c3 g1 w0 p1@2{2,3,23,24,31} a0 v- y![] r[] o[] x{} b0" ∷
-    "= 32" ∷
-    "2 Construct c3 g1 w0 p1@2{2,3,23,24,31} a1 v3/1{2,3,19,28,31}{2} y![] r[] o[] x{} b0" ∷
-    "= 33" ∷
-    "3 Construct c3 g1 w0 p1@2{2,3,23,24,31} a1 v3/1{2,3,19,28,31}{3} y![] r[] o[] x{} b0" ∷
-    "= 34" ∷
-    "19 Construct c3 g1 w0 p1@2{2,3,23,24,31} a1 v3/1{2,3,19,28,31}{19} y![] r[] o[] x{} b0" ∷
-    "= 35" ∷
-    "28 Construct c3 g1 w0 p1@2{2,3,23,24,31} a1 v3/1{2,3,19,28,31}{28} y![] r[] o[] x{} b0" ∷
-    "= 36" ∷
-    "31 Construct c3 g1 w0 p1@2{2,3,23,24,31} a1 v3/1{2,3,19,28,31}{31} y![] r[] o[] x{} b0" ∷
-    "end 36" ∷
+    "made 3:4 put \"b\" 79; cas \"x\" absent 0" ∷
+    "3 RegPrim c1 g3 w0 p1@1{1,2,3} a0 v1/0{1,2,3}{3} y- r[] o[3:3,3:4] x{} b0" ∷
+    "refused 17 10 2" ∷
     [])
 unfolding cases_compute
-tie_of_green_counts_goes_to_the_lowest_c = refl
+three_replicas_actions_ordered_crash_in_a_device_call_a = refl
 
--- A place that no member of the split received is left out, and later ones are not.
-transitional_list_with_a_hole_a :
+-- Replicas at the start: 3: actions are ordered; a replica crashes; the last event is refused.
+three_replicas_actions_ordered_crash_refused_a :
     replayed_text (
     "start 1 2 3" ∷
     "merge 1 2 3" ∷
-    "request 1 put \"y\" \"TTTTTTTTTTTTTTTTTTTTTTTTTTTTTTTTTTTTTTTTTTTTTTTTTTTTTTTTTTTTTTTTTTTTTTTTTTTTTTTTTTTTTTTTTTTTTTTTTTTTTTTTTTTTTTTTTTTTTTTTTTTTTTTTTTTTTTTTTTTTTTTTTTTTTTTTTTTTTTTTTTTTTTTTTTTTTTTTTTTTTTTTTTTTTTTTTTTTTTTTTTTTTTTTTTTTTTTTTTTTTTTTTTTTTTTTTTTTTTTTTTTTTTTTTTTTTTT\"" ∷
-    "rounds 2" ∷
-    "request 3 put \"z\" 64" ∷
+    "rounds 1" ∷
+    "request 1 put \"x\" 85; cas \"a\" 23 9223372036854775806; inc \"x\" -2" ∷
+    "request 3 del \"k1\"" ∷
+    "request 1 inc \"a\" 6 ? count" ∷
+    "order 2" ∷
+    "request 1 put \"z\" 96" ∷
     "order 1" ∷
-    "order 3" ∷
-    "split 3" ∷
+    "request 3 put \"a\" -9223372036854775807 ? get \"a\"" ∷
+    "rounds 2" ∷
+    "request 1 put \"b\" \"-1\"" ∷
+    "rounds 3" ∷
+    "request 1 cas \"x\" absent 34" ∷
+    "stop 3 0 81" ∷
+    "recover 3" ∷
+    "gather" ∷
+    "stop 1 9 01" ∷
+    "request 1 ? keys \"\"" ∷
+    "show 2" ∷
+    "stop 1 0 0101" ∷
+    "request 2 cas \"b\" 23 40 ? get \"abc\"" ∷
+    "show order" ∷
+    "stop 3 0 000101000150" ∷
+    "recover 1" ∷
+    "recover 3" ∷
+    "request 3 put \"a\" 82" ∷
+    "stop 3 0 ffffffffffffffffffffffffffffffffffffffff" ∷
+    "request 1 put \"b\" -9223372036854775807 ? get \"abc\"" ∷
+    "request 2 need \"a\" absent" ∷
+    "request 1 cas \"y\" absent 18" ∷
+    "fail 1 7" ∷
+    "request 2 inc \"b\" 2" ∷
+    "recover 3" ∷
+    "stop 1 0 -" ∷
+    "request 2 put \"y\" 23; put \"y\" 42; inc \"y\" 11 ? keys \"k\"" ∷
+    "recover 1" ∷
+    "request 3 del \"b\" ? keys \"q\"" ∷
+    "rounds 1" ∷
+    "stop 2 9 01" ∷
+    "rounds 2" ∷
+    "request 2 need \"a\" absent" ∷
+    "order 2" ∷
+    "stop 3 8 0101010101010101010101010101010101010101" ∷
+    "request 3 put \"x\" -1; inc \"ab\" 0 ? get \"ab\"" ∷
+    "gather" ∷
+    "gather" ∷
+    "deliver 1 50" ∷
     "end" ∷
     [])
     ≡ written (
@@ -645,94 +493,231 @@ transitional_list_with_a_hole_a :
     "1 ExchangeStates c1 g0 w0 p0@0{1,2,3} a0 v- y- r[] o[] x{} b0" ∷
     "2 ExchangeStates c1 g0 w0 p0@0{1,2,3} a0 v- y- r[] o[] x{} b0" ∷
     "3 ExchangeStates c1 g0 w0 p0@0{1,2,3} a0 v- y- r[] o[] x{} b0" ∷
-    "= 3" ∷
-    "1 ExchangeStates c1 g0 w0 p0@0{1,2,3} a0 v- y- r[] o[] x{} b1" ∷
+    "= 4" ∷
+    "1 Construct c1 g0 w0 p0@0{1,2,3} a1 v1/0{1,2,3}{1} y- r[] o[] x{} b0" ∷
     "= 5" ∷
-    "1 Construct c1 g0 w0 p0@0{1,2,3} a1 v1/0{1,2,3}{1} y- r[] o[] x{} b1" ∷
-    "= 6" ∷
     "2 Construct c1 g0 w0 p0@0{1,2,3} a1 v1/0{1,2,3}{2} y- r[] o[] x{} b0" ∷
-    "= 7" ∷
+    "= 6" ∷
     "3 Construct c1 g0 w0 p0@0{1,2,3} a1 v1/0{1,2,3}{3} y- r[] o[] x{} b0" ∷
+    "= 7" ∷
+    "1 Construct c1 g0 w0 p0@0{1,2,3} a1 v1/0{1,2,3}{1} y- r[] o[] x{} b1" ∷
+    "= 8" ∷
+    "3 Construct c1 g0 w0 p0@0{1,2,3} a1 v1/0{1,2,3}{3} y- r[] o[] x{} b1" ∷
     "= 9" ∷
-    "made 1:1 put \"y\" \"TTTTTTTTTTTTTTTTTTTTTTTTTTTTTTTTTTTTTTTTTTTTTTTTTTTTTTTTTTTTTTTTTTTTTTTTTTTTTTTTTTTTTTTTTTTTTTTTTTTTTTTTTTTTTTTTTTTTTTTTTTTTTTTTTTTTTTTTTTTTTTTTTTTTTTTTTTTTTTTTTTTTTTTTTTTTTTTTTTTTTTTTTTTTTTTTTTTTTTTTTTTTTTTTTTTTTTTTTTTTTTTTTTTTTTTTTTTTTTTTTTTTTTTTTTTTTTT\"" ∷
-    "1 RegPrim c1 g0 w0 p1@1{1,2,3} a0 v1/0{1,2,3}{1} y- r[] o[1:1] x{} b0" ∷
-    "= 10" ∷
-    "2 RegPrim c1 g0 w0 p1@1{1,2,3} a0 v1/0{1,2,3}{2} y- r[] o[] x{} b0" ∷
+    "1 Construct c1 g0 w0 p0@0{1,2,3} a1 v1/0{1,2,3}{1} y- r[] o[] x{} b2" ∷
     "= 11" ∷
+    "1 Construct c1 g0 w0 p0@0{1,2,3} a1 v1/0{1,2,3}{1} y- r[] o[] x{} b3" ∷
+    "= 13" ∷
+    "3 Construct c1 g0 w0 p0@0{1,2,3} a1 v1/0{1,2,3}{3} y- r[] o[] x{} b2" ∷
+    "= 15" ∷
+    "made 1:1 put \"x\" 85; cas \"a\" 23 9223372036854775806; inc \"x\" -2" ∷
+    "made 1:2 inc \"a\" 6 ? count" ∷
+    "made 1:3 put \"z\" 96" ∷
+    "1 RegPrim c1 g0 w0 p1@1{1,2,3} a0 v1/0{1,2,3}{1} y- r[] o[1:1,1:2,1:3] x{} b0" ∷
+    "= 16" ∷
+    "2 RegPrim c1 g0 w0 p1@1{1,2,3} a0 v1/0{1,2,3}{2} y- r[] o[] x{} b0" ∷
+    "= 17" ∷
+    "made 3:1 del \"k1\"" ∷
+    "made 3:2 put \"a\" -9223372036854775807 ? get \"a\"" ∷
+    "3 RegPrim c1 g0 w0 p1@1{1,2,3} a0 v1/0{1,2,3}{3} y- r[] o[3:1,3:2] x{} b0" ∷
+    "= 19" ∷
+    "order 1 1:1" ∷
+    "order 2 1:2" ∷
+    "order 3 1:3" ∷
+    "order 4 3:1" ∷
+    "order 5 3:2" ∷
+    "1 RegPrim c1 g5 w0 p1@1{1,2,3} a0 v1/0{1,2,3}{1} y- r[] o[] x{} b0" ∷
+    "reply 1:1 done" ∷
+    "reply 1:2 done ? count 2" ∷
+    "reply 1:3 done" ∷
+    "= 20" ∷
+    "2 RegPrim c1 g5 w0 p1@1{1,2,3} a0 v1/0{1,2,3}{2} y- r[] o[] x{} b0" ∷
+    "= 21" ∷
+    "3 RegPrim c1 g5 w0 p1@1{1,2,3} a0 v1/0{1,2,3}{3} y- r[] o[] x{} b0" ∷
+    "reply 3:1 done" ∷
+    "reply 3:2 done ? -9223372036854775807" ∷
+    "= 22" ∷
+    "made 1:4 put \"b\" \"-1\"" ∷
+    "1 RegPrim c1 g5 w0 p1@1{1,2,3} a0 v1/0{1,2,3}{1} y- r[] o[1:4] x{} b0" ∷
+    "= 24" ∷
+    "order 6 1:4" ∷
+    "1 RegPrim c1 g6 w0 p1@1{1,2,3} a0 v1/0{1,2,3}{1} y- r[] o[] x{} b0" ∷
+    "reply 1:4 done" ∷
+    "= 25" ∷
+    "2 RegPrim c1 g6 w0 p1@1{1,2,3} a0 v1/0{1,2,3}{2} y- r[] o[] x{} b0" ∷
+    "= 26" ∷
+    "3 RegPrim c1 g6 w0 p1@1{1,2,3} a0 v1/0{1,2,3}{3} y- r[] o[] x{} b0" ∷
+    "= 29" ∷
+    "made 1:5 cas \"x\" absent 34" ∷
+    "1 RegPrim c1 g6 w0 p1@1{1,2,3} a0 v1/0{1,2,3}{1} y- r[] o[1:5] x{} b0" ∷
+    "= 30" ∷
+    "3 Down" ∷
+    "= 31" ∷
+    "3 NonPrim - g6 w0 p1@1{1,2,3} a0 v1/0{1,2,3}{3} y- r[] o[] x{} b0" ∷
+    "= 34" ∷
+    "made 1:6 ? keys \"\"" ∷
+    "1 RegPrim c1 g6 w0 p1@1{1,2,3} a0 v1/0{1,2,3}{1} y- r[] o[1:5,1:6] x{} b0" ∷
+    "= 35" ∷
+    "greens 2 [1:1,1:2,1:3,3:1,3:2,1:4]" ∷
+    "db 2 \"a\"=-9223372036854775807 \"b\"=\"-1\" \"x\"=83 \"z\"=96" ∷
+    "= 36" ∷
+    "1 Down" ∷
+    "= 37" ∷
+    "made 2:1 cas \"b\" 23 40 ? get \"abc\"" ∷
+    "2 RegPrim c1 g6 w0 p1@1{1,2,3} a0 v1/0{1,2,3}{2} y- r[] o[2:1] x{} b0" ∷
+    "= 38" ∷
+    "all [1:1,1:2,1:3,3:1,3:2,1:4]" ∷
+    "= 39" ∷
+    "3 Down" ∷
+    "= 40" ∷
+    "1 NonPrim - g6 w0 p1@1{1,2,3} a0 v1/0{1,2,3}{1} y- r[1:5,1:6] o[] x{} b0" ∷
+    "= 41" ∷
+    "3 NonPrim - g6 w0 p1@1{1,2,3} a0 v1/0{1,2,3}{3} y- r[] o[] x{} b0" ∷
+    "= 42" ∷
+    "3 NonPrim - g6 w0 p1@1{1,2,3} a0 v1/0{1,2,3}{3} y- r[] o[] x{} b1" ∷
+    "= 43" ∷
+    "3 Down" ∷
+    "= 44" ∷
+    "1 NonPrim - g6 w0 p1@1{1,2,3} a0 v1/0{1,2,3}{1} y- r[1:5,1:6] o[] x{} b1" ∷
+    "= 45" ∷
+    "made 2:2 need \"a\" absent" ∷
+    "2 RegPrim c1 g6 w0 p1@1{1,2,3} a0 v1/0{1,2,3}{2} y- r[] o[2:1,2:2] x{} b0" ∷
+    "= 46" ∷
+    "1 NonPrim - g6 w0 p1@1{1,2,3} a0 v1/0{1,2,3}{1} y- r[1:5,1:6] o[] x{} b2" ∷
+    "= 48" ∷
+    "made 2:3 inc \"b\" 2" ∷
+    "2 RegPrim c1 g6 w0 p1@1{1,2,3} a0 v1/0{1,2,3}{2} y- r[] o[2:1,2:2,2:3] x{} b0" ∷
+    "= 49" ∷
+    "3 NonPrim - g6 w0 p1@1{1,2,3} a0 v1/0{1,2,3}{3} y- r[] o[] x{} b0" ∷
+    "= 50" ∷
+    "1 Down" ∷
+    "= 51" ∷
+    "made 2:4 put \"y\" 23; put \"y\" 42; inc \"y\" 11 ? keys \"k\"" ∷
+    "2 RegPrim c1 g6 w0 p1@1{1,2,3} a0 v1/0{1,2,3}{2} y- r[] o[2:1,2:2,2:3,2:4] x{} b0" ∷
+    "= 52" ∷
+    "1 NonPrim - g6 w0 p1@1{1,2,3} a0 v1/0{1,2,3}{1} y- r[1:5,1:6] o[] x{} b0" ∷
+    "= 53" ∷
+    "3 NonPrim - g6 w0 p1@1{1,2,3} a0 v1/0{1,2,3}{3} y- r[] o[] x{} b1" ∷
+    "= 58" ∷
+    "made 2:5 need \"a\" absent" ∷
+    "2 RegPrim c1 g6 w0 p1@1{1,2,3} a0 v1/0{1,2,3}{2} y- r[] o[2:1,2:2,2:3,2:4,2:5] x{} b0" ∷
+    "= 61" ∷
+    "3 NonPrim - g6 w0 p1@1{1,2,3} a0 v1/0{1,2,3}{3} y- r[] o[] x{} b2" ∷
+    "refused 48 2 1" ∷
+    [])
+unfolding cases_compute
+three_replicas_actions_ordered_crash_refused_a = refl
+
+-- Replicas at the start: 3: actions are ordered.
+three_replicas_actions_ordered_e :
+    replayed_text (
+    "start 1 2 3" ∷
+    "merge 1 2 3" ∷
+    "rounds 3" ∷
+    "show 1" ∷
+    "rounds 3" ∷
+    "request 1 inc \"a\" -1 ? get \"z\"" ∷
+    "request 1 put \"z\" 83" ∷
+    "show order" ∷
+    "rounds 1" ∷
+    "rounds 1" ∷
+    "request 1 put \"b\" 21" ∷
+    "end" ∷
+    [])
+    ≡ written (
+    "= 1" ∷
+    "1 NonPrim - g0 w0 p0@0{1,2,3} a0 v- y- r[] o[] x{} b0" ∷
+    "2 NonPrim - g0 w0 p0@0{1,2,3} a0 v- y- r[] o[] x{} b0" ∷
+    "3 NonPrim - g0 w0 p0@0{1,2,3} a0 v- y- r[] o[] x{} b0" ∷
+    "= 2" ∷
+    "1 ExchangeStates c1 g0 w0 p0@0{1,2,3} a0 v- y- r[] o[] x{} b0" ∷
+    "2 ExchangeStates c1 g0 w0 p0@0{1,2,3} a0 v- y- r[] o[] x{} b0" ∷
+    "3 ExchangeStates c1 g0 w0 p0@0{1,2,3} a0 v- y- r[] o[] x{} b0" ∷
+    "= 4" ∷
+    "1 Construct c1 g0 w0 p0@0{1,2,3} a1 v1/0{1,2,3}{1} y- r[] o[] x{} b0" ∷
+    "= 5" ∷
+    "2 Construct c1 g0 w0 p0@0{1,2,3} a1 v1/0{1,2,3}{2} y- r[] o[] x{} b0" ∷
+    "= 6" ∷
+    "3 Construct c1 g0 w0 p0@0{1,2,3} a1 v1/0{1,2,3}{3} y- r[] o[] x{} b0" ∷
+    "= 8" ∷
+    "1 RegPrim c1 g0 w0 p1@1{1,2,3} a0 v1/0{1,2,3}{1} y- r[] o[] x{} b0" ∷
+    "= 9" ∷
+    "2 RegPrim c1 g0 w0 p1@1{1,2,3} a0 v1/0{1,2,3}{2} y- r[] o[] x{} b0" ∷
+    "= 10" ∷
     "3 RegPrim c1 g0 w0 p1@1{1,2,3} a0 v1/0{1,2,3}{3} y- r[] o[] x{} b0" ∷
     "= 12" ∷
-    "made 3:1 put \"z\" 64" ∷
-    "3 RegPrim c1 g0 w0 p1@1{1,2,3} a0 v1/0{1,2,3}{3} y- r[] o[3:1] x{} b0" ∷
+    "greens 1 []" ∷
+    "db 1" ∷
+    "= 16" ∷
+    "made 1:1 inc \"a\" -1 ? get \"z\"" ∷
+    "1 RegPrim c1 g0 w0 p1@1{1,2,3} a0 v1/0{1,2,3}{1} y- r[] o[1:1] x{} b0" ∷
+    "= 17" ∷
+    "made 1:2 put \"z\" 83" ∷
+    "1 RegPrim c1 g0 w0 p1@1{1,2,3} a0 v1/0{1,2,3}{1} y- r[] o[1:1,1:2] x{} b0" ∷
+    "= 18" ∷
+    "all []" ∷
+    "= 20" ∷
+    "order 1 1:1" ∷
+    "order 2 1:2" ∷
+    "1 RegPrim c1 g2 w0 p1@1{1,2,3} a0 v1/0{1,2,3}{1} y- r[] o[] x{} b0" ∷
+    "reply 1:1 done ? absent" ∷
+    "reply 1:2 done" ∷
+    "= 21" ∷
+    "2 RegPrim c1 g2 w0 p1@1{1,2,3} a0 v1/0{1,2,3}{2} y- r[] o[] x{} b0" ∷
+    "= 22" ∷
+    "3 RegPrim c1 g2 w0 p1@1{1,2,3} a0 v1/0{1,2,3}{3} y- r[] o[] x{} b0" ∷
+    "= 24" ∷
+    "made 1:3 put \"b\" 21" ∷
+    "1 RegPrim c1 g2 w0 p1@1{1,2,3} a0 v1/0{1,2,3}{1} y- r[] o[1:3] x{} b0" ∷
+    "end 24" ∷
+    [])
+unfolding cases_compute
+three_replicas_actions_ordered_e = refl
+
+-- Replicas at the start: 3: actions are ordered.
+three_replicas_actions_ordered_f :
+    replayed_text (
+    "start 6 7 21" ∷
+    "merge 6 7 21" ∷
+    "rounds 2" ∷
+    "gather" ∷
+    "request 7 put \"k1\" 6" ∷
+    "gather" ∷
+    "show 7" ∷
+    "deliver 6 1" ∷
+    "end" ∷
+    [])
+    ≡ written (
+    "= 1" ∷
+    "6 NonPrim - g0 w0 p0@0{6,7,21} a0 v- y- r[] o[] x{} b0" ∷
+    "7 NonPrim - g0 w0 p0@0{6,7,21} a0 v- y- r[] o[] x{} b0" ∷
+    "21 NonPrim - g0 w0 p0@0{6,7,21} a0 v- y- r[] o[] x{} b0" ∷
+    "= 2" ∷
+    "6 ExchangeStates c1 g0 w0 p0@0{6,7,21} a0 v- y- r[] o[] x{} b0" ∷
+    "7 ExchangeStates c1 g0 w0 p0@0{6,7,21} a0 v- y- r[] o[] x{} b0" ∷
+    "21 ExchangeStates c1 g0 w0 p0@0{6,7,21} a0 v- y- r[] o[] x{} b0" ∷
+    "= 4" ∷
+    "6 Construct c1 g0 w0 p0@0{6,7,21} a1 v1/0{6,7,21}{6} y- r[] o[] x{} b0" ∷
+    "= 5" ∷
+    "7 Construct c1 g0 w0 p0@0{6,7,21} a1 v1/0{6,7,21}{7} y- r[] o[] x{} b0" ∷
+    "= 6" ∷
+    "21 Construct c1 g0 w0 p0@0{6,7,21} a1 v1/0{6,7,21}{21} y- r[] o[] x{} b0" ∷
+    "= 8" ∷
+    "6 RegPrim c1 g0 w0 p1@1{6,7,21} a0 v1/0{6,7,21}{6} y- r[] o[] x{} b0" ∷
+    "= 9" ∷
+    "7 RegPrim c1 g0 w0 p1@1{6,7,21} a0 v1/0{6,7,21}{7} y- r[] o[] x{} b0" ∷
+    "= 10" ∷
+    "21 RegPrim c1 g0 w0 p1@1{6,7,21} a0 v1/0{6,7,21}{21} y- r[] o[] x{} b0" ∷
+    "= 12" ∷
+    "made 7:1 put \"k1\" 6" ∷
+    "7 RegPrim c1 g0 w0 p1@1{6,7,21} a0 v1/0{6,7,21}{7} y- r[] o[7:1] x{} b0" ∷
+    "= 14" ∷
+    "greens 7 []" ∷
+    "db 7" ∷
     "= 15" ∷
-    "3 TransPrim t1 g0 w0 p1@1{1,2,3} a0 v1/0{1,2,3}{3} y?[3:1] r[] o[] x{} b0" ∷
+    "order 1 7:1" ∷
+    "6 RegPrim c1 g1 w0 p1@1{6,7,21} a0 v1/0{6,7,21}{6} y- r[] o[] x{} b0" ∷
     "end 15" ∷
     [])
 unfolding cases_compute
-transitional_list_with_a_hole_a = refl
-
--- A place that no member of the split received is left out, and later ones are not.
-transitional_list_with_a_hole_b :
-    replayed_text (
-    "start 1 2 3" ∷
-    "merge 1 2 3" ∷
-    "request 3 put \"ab\" 92 ? get \"b\"" ∷
-    "request 2 put \"y\" 86" ∷
-    "rounds 1" ∷
-    "rounds 2" ∷
-    "request 2 need \"z\" absent" ∷
-    "request 3 inc \"z\" 4; put \"y\" 87" ∷
-    "order 2" ∷
-    "order 3" ∷
-    "receive 1 10" ∷
-    "split 1" ∷
-    "end" ∷
-    [])
-    ≡ written (
-    "= 1" ∷
-    "1 NonPrim - g0 w0 p0@0{1,2,3} a0 v- y- r[] o[] x{} b0" ∷
-    "2 NonPrim - g0 w0 p0@0{1,2,3} a0 v- y- r[] o[] x{} b0" ∷
-    "3 NonPrim - g0 w0 p0@0{1,2,3} a0 v- y- r[] o[] x{} b0" ∷
-    "= 2" ∷
-    "1 ExchangeStates c1 g0 w0 p0@0{1,2,3} a0 v- y- r[] o[] x{} b0" ∷
-    "2 ExchangeStates c1 g0 w0 p0@0{1,2,3} a0 v- y- r[] o[] x{} b0" ∷
-    "3 ExchangeStates c1 g0 w0 p0@0{1,2,3} a0 v- y- r[] o[] x{} b0" ∷
-    "= 3" ∷
-    "3 ExchangeStates c1 g0 w0 p0@0{1,2,3} a0 v- y- r[] o[] x{} b1" ∷
-    "= 4" ∷
-    "2 ExchangeStates c1 g0 w0 p0@0{1,2,3} a0 v- y- r[] o[] x{} b1" ∷
-    "= 6" ∷
-    "1 Construct c1 g0 w0 p0@0{1,2,3} a1 v1/0{1,2,3}{1} y- r[] o[] x{} b0" ∷
-    "= 7" ∷
-    "2 Construct c1 g0 w0 p0@0{1,2,3} a1 v1/0{1,2,3}{2} y- r[] o[] x{} b1" ∷
-    "= 8" ∷
-    "3 Construct c1 g0 w0 p0@0{1,2,3} a1 v1/0{1,2,3}{3} y- r[] o[] x{} b1" ∷
-    "= 10" ∷
-    "1 RegPrim c1 g0 w0 p1@1{1,2,3} a0 v1/0{1,2,3}{1} y- r[] o[] x{} b0" ∷
-    "= 11" ∷
-    "made 2:1 put \"y\" 86" ∷
-    "2 RegPrim c1 g0 w0 p1@1{1,2,3} a0 v1/0{1,2,3}{2} y- r[] o[2:1] x{} b0" ∷
-    "= 12" ∷
-    "made 3:1 put \"ab\" 92 ? get \"b\"" ∷
-    "3 RegPrim c1 g0 w0 p1@1{1,2,3} a0 v1/0{1,2,3}{3} y- r[] o[3:1] x{} b0" ∷
-    "= 14" ∷
-    "order 1 2:1" ∷
-    "order 2 3:1" ∷
-    "1 RegPrim c1 g2 w0 p1@1{1,2,3} a0 v1/0{1,2,3}{1} y- r[] o[] x{} b0" ∷
-    "= 15" ∷
-    "2 RegPrim c1 g2 w0 p1@1{1,2,3} a0 v1/0{1,2,3}{2} y- r[] o[] x{} b0" ∷
-    "reply 2:1 done" ∷
-    "= 16" ∷
-    "3 RegPrim c1 g2 w0 p1@1{1,2,3} a0 v1/0{1,2,3}{3} y- r[] o[] x{} b0" ∷
-    "reply 3:1 done ? absent" ∷
-    "= 17" ∷
-    "made 2:2 need \"z\" absent" ∷
-    "2 RegPrim c1 g2 w0 p1@1{1,2,3} a0 v1/0{1,2,3}{2} y- r[] o[2:2] x{} b0" ∷
-    "= 18" ∷
-    "made 3:2 inc \"z\" 4; put \"y\" 87" ∷
-    "3 RegPrim c1 g2 w0 p1@1{1,2,3} a0 v1/0{1,2,3}{3} y- r[] o[3:2] x{} b0" ∷
-    "= 22" ∷
-    "1 TransPrim t1 g2 w0 p1@1{1,2,3} a0 v1/0{1,2,3}{1} y?[3:2] r[] o[] x{} b0" ∷
-    "end 22" ∷
-    [])
-unfolding cases_compute
-transitional_list_with_a_hole_b = refl
+three_replicas_actions_ordered_f = refl

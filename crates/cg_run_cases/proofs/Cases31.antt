@@ -4,395 +4,56 @@ use mathlib.Core.Path.{refl}
 use Rattle.cg_run_cases.specs.Replaying.{replayed_text, written}
 use Rattle.cg_run_cases.specs.Computing.{cases_compute}
 
--- Replicas at the start: 2: a primary is lost in a partition, and after a merge red actions are ordered; a replica crashes; a server that was removed is told so.
-two_replicas_primary_lost_and_reds_ordered_crash_leaver_a :
-    replayed_text (
-    "start 1 2" ∷
-    "merge 1 2" ∷
-    "rounds 2" ∷
-    "request 1 inc \"y\" 4" ∷
-    "leave 2 1" ∷
-    "split 1" ∷
-    "split 2" ∷
-    "merge 1 2" ∷
-    "rounds 2" ∷
-    "leave 2 1" ∷
-    "split 1" ∷
-    "split 2" ∷
-    "merge 2" ∷
-    "merge 1" ∷
-    "split 2" ∷
-    "split 1" ∷
-    "merge 1 2" ∷
-    "rounds 2" ∷
-    "rounds 2" ∷
-    "leave 1 2" ∷
-    "gather" ∷
-    "leave 1 1" ∷
-    "stop 1 0 -" ∷
-    "recover 1" ∷
-    "deliver 2 1" ∷
-    "split 2" ∷
-    "merge 1 2" ∷
-    "rounds 1" ∷
-    "gather" ∷
-    "gather" ∷
-    "gather" ∷
-    "gather" ∷
-    "gather" ∷
-    "gather" ∷
-    "split 1 2" ∷
-    "gather" ∷
-    "gather" ∷
-    "gather" ∷
-    "rounds 1" ∷
-    "rounds 3" ∷
-    "gather" ∷
-    "rounds 3" ∷
-    "rounds 3" ∷
-    "show 1" ∷
-    "rounds 1" ∷
-    "rounds 3" ∷
-    "rounds 2" ∷
-    "rounds 1" ∷
-    "rounds 1" ∷
-    "rounds 3" ∷
-    "gather" ∷
-    "rounds 3" ∷
-    "rounds 1" ∷
-    "gather" ∷
-    "gather" ∷
-    "show order" ∷
-    "gather" ∷
-    "rounds 3" ∷
-    "gather" ∷
-    "end" ∷
-    [])
-    ≡ written (
-    "= 1" ∷
-    "1 NonPrim - g0 w0 p0@0{1,2} a0 v- y- r[] o[] x{} b0" ∷
-    "2 NonPrim - g0 w0 p0@0{1,2} a0 v- y- r[] o[] x{} b0" ∷
-    "= 2" ∷
-    "1 ExchangeStates c1 g0 w0 p0@0{1,2} a0 v- y- r[] o[] x{} b0" ∷
-    "2 ExchangeStates c1 g0 w0 p0@0{1,2} a0 v- y- r[] o[] x{} b0" ∷
-    "= 4" ∷
-    "1 Construct c1 g0 w0 p0@0{1,2} a1 v1/0{1,2}{1} y- r[] o[] x{} b0" ∷
-    "= 5" ∷
-    "2 Construct c1 g0 w0 p0@0{1,2} a1 v1/0{1,2}{2} y- r[] o[] x{} b0" ∷
-    "= 7" ∷
-    "1 RegPrim c1 g0 w0 p1@1{1,2} a0 v1/0{1,2}{1} y- r[] o[] x{} b0" ∷
-    "= 8" ∷
-    "2 RegPrim c1 g0 w0 p1@1{1,2} a0 v1/0{1,2}{2} y- r[] o[] x{} b0" ∷
-    "= 9" ∷
-    "made 1:1 inc \"y\" 4" ∷
-    "1 RegPrim c1 g0 w0 p1@1{1,2} a0 v1/0{1,2}{1} y- r[] o[1:1] x{} b0" ∷
-    "= 10" ∷
-    "made 2:1 leave 1" ∷
-    "2 RegPrim c1 g0 w0 p1@1{1,2} a0 v1/0{1,2}{2} y- r[] o[2:1] x{} b0" ∷
-    "= 11" ∷
-    "1 TransPrim t1 g0 w0 p1@1{1,2} a0 v1/0{1,2}{1} y- r[] o[1:1] x{} b0" ∷
-    "= 12" ∷
-    "2 TransPrim t1 g0 w0 p1@1{1,2} a0 v1/0{1,2}{2} y- r[] o[2:1] x{} b0" ∷
-    "= 13" ∷
-    "1 ExchangeStates c2 g0 w0 p1@1{1,2} a0 v- y![] r[1:1] o[] x{} b0" ∷
-    "2 ExchangeStates c2 g0 w0 p1@1{1,2} a0 v- y![] r[2:1] o[] x{} b0" ∷
-    "= 15" ∷
-    "1 ExchangeActions c2 g0 w0 p1@1{1,2} a0 v- y![] r[1:1] o[] x{} b0" ∷
-    "= 16" ∷
-    "2 ExchangeActions c2 g0 w0 p1@1{1,2} a0 v- y![] r[2:1] o[] x{} b0" ∷
-    "= 19" ∷
-    "2 ExchangeActions c2 g0 w0 p1@1{1,2} a0 v- y![] r[1:1,2:1] o[] x{} b0" ∷
-    "= 20" ∷
-    "2 ExchangeActions c2 g0 w0 p1@1{1,2} a0 v- y![] r[1:1,2:1] o[] x{} b1" ∷
-    "= 21" ∷
-    "1 NonPrim t2 g0 w0 p1@1{1,2} a0 v- y![] r[1:1] o[] x{} b0" ∷
-    "= 22" ∷
-    "2 NonPrim t2 g0 w0 p1@1{1,2} a0 v- y![] r[1:1,2:1] o[] x{} b1" ∷
-    "= 23" ∷
-    "2 ExchangeStates c3 g0 w0 p1@1{1,2} a0 v- y![] r[1:1,2:1] o[] x{} b1" ∷
-    "= 24" ∷
-    "1 ExchangeStates c4 g0 w0 p1@1{1,2} a0 v- y![] r[1:1] o[] x{} b0" ∷
-    "= 25" ∷
-    "2 NonPrim t3 g0 w0 p1@1{1,2} a0 v- y![] r[1:1,2:1] o[] x{} b1" ∷
-    "= 26" ∷
-    "1 NonPrim t4 g0 w0 p1@1{1,2} a0 v- y![] r[1:1] o[] x{} b0" ∷
-    "= 27" ∷
-    "1 ExchangeStates c5 g0 w0 p1@1{1,2} a0 v- y![] r[1:1] o[] x{} b0" ∷
-    "2 ExchangeStates c5 g0 w0 p1@1{1,2} a0 v- y![] r[1:1,2:1] o[] x{} b1" ∷
-    "= 29" ∷
-    "1 ExchangeActions c5 g0 w0 p1@1{1,2} a0 v- y![] r[1:1] o[] x{} b0" ∷
-    "= 30" ∷
-    "2 ExchangeActions c5 g0 w0 p1@1{1,2} a0 v- y![] r[1:1,2:1] o[] x{} b1" ∷
-    "= 32" ∷
-    "1 Construct c5 g0 w0 p1@1{1,2} a1 v5/1{1,2}{1} y![] r[1:1,2:1] o[] x{} b0" ∷
-    "= 33" ∷
-    "2 Construct c5 g0 w0 p1@1{1,2} a1 v5/1{1,2}{2} y![] r[1:1,2:1] o[] x{} b1" ∷
-    "= 35" ∷
-    "order 1 1:1" ∷
-    "order 2 2:1" ∷
-    "1 RegPrim c5 g2 w0 p2@5{1,2} a0 v5/1{1,2}{1} y- r[] o[] x{1} b0" ∷
-    "reply 1:1 done" ∷
-    "= 36" ∷
-    "made 2:2 leave 1" ∷
-    "2 RegPrim c5 g2 w0 p2@5{1,2} a0 v5/1{1,2}{2} y- r[] o[2:2] x{1} b0" ∷
-    "reply 2:1 done" ∷
-    "= 38" ∷
-    "order 3 2:2" ∷
-    "1 RegPrim c5 g3 w2 p2@5{1,2} a0 v5/1{1,2}{1} y- r[] o[] x{1} b0" ∷
-    "= 39" ∷
-    "2 RegPrim c5 g3 w2 p2@5{1,2} a0 v5/1{1,2}{2} y- r[] o[] x{1} b0" ∷
-    "reply 2:2 done" ∷
-    "= 40" ∷
-    "made 1:2 leave 2" ∷
-    "1 RegPrim c5 g3 w2 p2@5{1,2} a0 v5/1{1,2}{1} y- r[] o[1:2] x{1} b0" ∷
-    "= 42" ∷
-    "made 1:3 leave 1" ∷
-    "1 RegPrim c5 g3 w2 p2@5{1,2} a0 v5/1{1,2}{1} y- r[] o[1:2,1:3] x{1} b0" ∷
-    "= 43" ∷
-    "1 Down" ∷
-    "= 44" ∷
-    "1 NonPrim - g3 w2 p2@5{1,2} a0 v5/1{1,2}{1} y- r[1:2,1:3] o[] x{1} b0" ∷
-    "= 45" ∷
-    "order 4 1:2" ∷
-    "2 RegPrim c5 g4 w2 p2@5{1,2} a0 v5/1{1,2}{2} y- r[] o[] x{1,2} b0" ∷
-    "= 46" ∷
-    "2 TransPrim t5 g4 w2 p2@5{1,2} a0 v5/1{1,2}{2} y- r[] o[] x{1,2} b0" ∷
-    "= 47" ∷
-    "1 ExchangeStates c6 g3 w2 p2@5{1,2} a0 v5/1{1,2}{1} y- r[1:2,1:3] o[] x{1} b0" ∷
-    "2 ExchangeStates c6 g4 w2 p2@5{1,2} a0 v- y![] r[] o[] x{1,2} b0" ∷
-    "= 49" ∷
-    "1 Left c6 g3 w2 p2@5{1,2} a0 v5/1{1,2}{1} y- r[1:2,1:3] o[] x{1} b0" ∷
-    "= 50" ∷
-    "2 Left c6 g4 w2 p2@5{1,2} a0 v- y![] r[] o[] x{1,2} b0" ∷
-    "= 57" ∷
-    "1 Left t6 g3 w2 p2@5{1,2} a0 v5/1{1,2}{1} y- r[1:2,1:3] o[] x{1} b0" ∷
-    "2 Left t6 g4 w2 p2@5{1,2} a0 v- y![] r[] o[] x{1,2} b0" ∷
-    "= 72" ∷
-    "greens 1 [2:2]" ∷
-    "db 1 \"y\"=4" ∷
-    "= 91" ∷
-    "all [1:1,2:1,2:2,1:2]" ∷
-    "end 96" ∷
-    [])
-unfolding cases_compute
-two_replicas_primary_lost_and_reds_ordered_crash_leaver_a = refl
-
--- Replicas at the start: 2: several primaries follow one another.
-two_replicas_several_primaries_a_from_discarding :
-    replayed_text (
-    "start 1 2" ∷
-    "merge 1 2" ∷
-    "rounds 2" ∷
-    "gather" ∷
-    "split 1" ∷
-    "split 2" ∷
-    "merge 1" ∷
-    "merge 2" ∷
-    "order 2" ∷
-    "rounds 1" ∷
-    "order 1" ∷
-    "deliver 1 1" ∷
-    "split 2" ∷
-    "gather" ∷
-    "gather" ∷
-    "gather" ∷
-    "rounds 1" ∷
-    "gather" ∷
-    "request 2 move \"y\" \"x\" 5 ? keys \"k\"" ∷
-    "gather" ∷
-    "request 2 inc \"y\" -2" ∷
-    "request 2 del \"x\"; inc \"y\" -2; put \"x\" 86; put \"a\" 73; del \"b\"; inc \"x\" 9223372036854775807; inc \"abc\" 12; move \"z\" \"z\" 5; inc \"z\" 6; del \"y\"; cas \"a\" 18 19; put \"x\" \"yes \\\"no\\\"\"; move \"a\" \"a\" 1; del \"a\"; cas \"a\" absent -7; inc \"a\" 9223372036854775807" ∷
-    "request 1 put \"a\" 47" ∷
-    "gather" ∷
-    "deliver 1 1" ∷
-    "gather" ∷
-    "split 1" ∷
-    "merge 1 2" ∷
-    "split 1 2" ∷
-    "merge 1 2" ∷
-    "rounds 4" ∷
-    "request 2 inc \"y\" 1 ? keys \"x\"" ∷
-    "request 2 need \"y\" 52" ∷
-    "request 1 ? get \"k2\"" ∷
-    "split 1 2" ∷
-    "merge 1 2" ∷
-    "rounds 3" ∷
-    "request 2 move \"y\" \"abc\" 9223372036854775807 ? get \"y\"" ∷
-    "order 1" ∷
-    "receive 2 6" ∷
-    "gather" ∷
-    "gather" ∷
-    "gather" ∷
-    "gather" ∷
-    "gather" ∷
-    "request 2 inc \"x\" 8 ? count" ∷
-    "request 1 put \"ab\" 57" ∷
-    "gather" ∷
-    "deliver 2 2" ∷
-    "split 1" ∷
-    "merge 1" ∷
-    "show 1" ∷
-    "gather" ∷
-    "request 2 inc \"k1\" 6; inc \"a\" 3" ∷
-    "split 2" ∷
-    "deliver 1 1" ∷
-    "gather" ∷
-    "gather" ∷
-    "deliver 1 1" ∷
-    "end" ∷
-    [])
-    ≡ written (
-    "= 1" ∷
-    "1 NonPrim - g0 w0 p0@0{1,2} a0 v- y- r[] o[] x{} b0" ∷
-    "2 NonPrim - g0 w0 p0@0{1,2} a0 v- y- r[] o[] x{} b0" ∷
-    "= 2" ∷
-    "1 ExchangeStates c1 g0 w0 p0@0{1,2} a0 v- y- r[] o[] x{} b0" ∷
-    "2 ExchangeStates c1 g0 w0 p0@0{1,2} a0 v- y- r[] o[] x{} b0" ∷
-    "= 4" ∷
-    "1 Construct c1 g0 w0 p0@0{1,2} a1 v1/0{1,2}{1} y- r[] o[] x{} b0" ∷
-    "= 5" ∷
-    "2 Construct c1 g0 w0 p0@0{1,2} a1 v1/0{1,2}{2} y- r[] o[] x{} b0" ∷
-    "= 7" ∷
-    "1 RegPrim c1 g0 w0 p1@1{1,2} a0 v1/0{1,2}{1} y- r[] o[] x{} b0" ∷
-    "= 8" ∷
-    "2 RegPrim c1 g0 w0 p1@1{1,2} a0 v1/0{1,2}{2} y- r[] o[] x{} b0" ∷
-    "= 10" ∷
-    "1 TransPrim t1 g0 w0 p1@1{1,2} a0 v1/0{1,2}{1} y- r[] o[] x{} b0" ∷
-    "= 11" ∷
-    "2 TransPrim t1 g0 w0 p1@1{1,2} a0 v1/0{1,2}{2} y- r[] o[] x{} b0" ∷
-    "= 12" ∷
-    "1 ExchangeStates c2 g0 w0 p1@1{1,2} a0 v- y![] r[] o[] x{} b0" ∷
-    "= 13" ∷
-    "2 ExchangeStates c3 g0 w0 p1@1{1,2} a0 v- y![] r[] o[] x{} b0" ∷
-    "= 16" ∷
-    "1 Construct c2 g0 w0 p1@1{1,2} a1 v2/1{1}{1} y![] r[] o[] x{} b0" ∷
-    "= 17" ∷
-    "2 NonPrim c3 g0 w0 p1@1{1,2} a0 v- y![] r[] o[] x{} b0" ∷
-    "= 19" ∷
-    "1 RegPrim c2 g0 w0 p2@2{1} a0 v2/1{1}{1} y- r[] o[] x{} b0" ∷
-    "= 20" ∷
-    "2 NonPrim t3 g0 w0 p1@1{1,2} a0 v- y![] r[] o[] x{} b0" ∷
-    "= 26" ∷
-    "2 NonPrim t3 g0 w0 p1@1{1,2} a0 v- y![] r[] o[] x{} b1" ∷
-    "= 28" ∷
-    "2 NonPrim t3 g0 w0 p1@1{1,2} a0 v- y![] r[] o[] x{} b2" ∷
-    "= 29" ∷
-    "2 NonPrim t3 g0 w0 p1@1{1,2} a0 v- y![] r[] o[] x{} b3" ∷
-    "= 30" ∷
-    "made 1:1 put \"a\" 47" ∷
-    "1 RegPrim c2 g0 w0 p2@2{1} a0 v2/1{1}{1} y- r[] o[1:1] x{} b0" ∷
-    "= 32" ∷
-    "order 1 1:1" ∷
-    "1 RegPrim c2 g1 w0 p2@2{1} a0 v2/1{1}{1} y- r[] o[] x{} b0" ∷
-    "reply 1:1 done" ∷
-    "= 34" ∷
-    "1 TransPrim t2 g1 w0 p2@2{1} a0 v2/1{1}{1} y- r[] o[] x{} b0" ∷
-    "= 35" ∷
-    "1 ExchangeStates c4 g1 w0 p2@2{1} a0 v- y![] r[] o[] x{} b0" ∷
-    "2 ExchangeStates c4 g0 w0 p1@1{1,2} a0 v- y![] r[] o[] x{} b3" ∷
-    "= 36" ∷
-    "1 NonPrim t4 g1 w0 p2@2{1} a0 v- y![] r[] o[] x{} b0" ∷
-    "2 NonPrim t4 g0 w0 p1@1{1,2} a0 v- y![] r[] o[] x{} b3" ∷
-    "= 37" ∷
-    "1 ExchangeStates c5 g1 w0 p2@2{1} a0 v- y![] r[] o[] x{} b0" ∷
-    "2 ExchangeStates c5 g0 w0 p1@1{1,2} a0 v- y![] r[] o[] x{} b3" ∷
-    "= 39" ∷
-    "1 ExchangeActions c5 g1 w0 p2@2{1} a0 v- y![] r[] o[] x{} b0" ∷
-    "= 40" ∷
-    "2 ExchangeActions c5 g0 w0 p1@1{1,2} a0 v- y![] r[] o[] x{} b3" ∷
-    "= 42" ∷
-    "1 Construct c5 g1 w0 p2@2{1} a1 v5/2{1,2}{1} y![] r[] o[] x{} b0" ∷
-    "= 43" ∷
-    "2 Construct c5 g1 w0 p2@2{1} a1 v5/2{1,2}{2} y![] r[] o[] x{} b3" ∷
-    "= 45" ∷
-    "1 RegPrim c5 g1 w0 p3@5{1,2} a0 v5/2{1,2}{1} y- r[] o[] x{} b0" ∷
-    "= 46" ∷
-    "made 2:1 move \"y\" \"x\" 5 ? keys \"k\"" ∷
-    "made 2:2 inc \"y\" -2" ∷
-    "made 2:3 del \"x\"; inc \"y\" -2; put \"x\" 86; put \"a\" 73; del \"b\"; inc \"x\" 9223372036854775807; inc \"abc\" 12; move \"z\" \"z\" 5; inc \"z\" 6; del \"y\"; cas \"a\" 18 19; put \"x\" \"yes \\\"no\\\"\"; move \"a\" \"a\" 1; del \"a\"; cas \"a\" absent -7; inc \"a\" 9223372036854775807" ∷
-    "2 RegPrim c5 g1 w0 p3@5{1,2} a0 v5/2{1,2}{2} y- r[] o[2:1,2:2,2:3] x{} b0" ∷
-    "= 48" ∷
-    "order 2 2:1" ∷
-    "order 3 2:2" ∷
-    "order 4 2:3" ∷
-    "1 RegPrim c5 g4 w0 p3@5{1,2} a0 v5/2{1,2}{1} y- r[] o[] x{} b0" ∷
-    "= 49" ∷
-    "2 RegPrim c5 g4 w0 p3@5{1,2} a0 v5/2{1,2}{2} y- r[] o[] x{} b0" ∷
-    "reply 2:1 aborted 1 ? keys" ∷
-    "reply 2:2 done" ∷
-    "reply 2:3 range 6" ∷
-    "= 50" ∷
-    "made 2:4 inc \"y\" 1 ? keys \"x\"" ∷
-    "2 RegPrim c5 g4 w0 p3@5{1,2} a0 v5/2{1,2}{2} y- r[] o[2:4] x{} b0" ∷
-    "= 51" ∷
-    "made 2:5 need \"y\" 52" ∷
-    "2 RegPrim c5 g4 w0 p3@5{1,2} a0 v5/2{1,2}{2} y- r[] o[2:4,2:5] x{} b0" ∷
-    "= 52" ∷
-    "made 1:2 ? get \"k2\"" ∷
-    "1 RegPrim c5 g4 w0 p3@5{1,2} a0 v5/2{1,2}{1} y- r[] o[1:2] x{} b0" ∷
-    "= 53" ∷
-    "1 TransPrim t5 g4 w0 p3@5{1,2} a0 v5/2{1,2}{1} y- r[] o[1:2] x{} b0" ∷
-    "2 TransPrim t5 g4 w0 p3@5{1,2} a0 v5/2{1,2}{2} y- r[] o[2:4,2:5] x{} b0" ∷
-    "= 54" ∷
-    "1 ExchangeStates c6 g4 w0 p3@5{1,2} a0 v- y![] r[1:2] o[] x{} b0" ∷
-    "2 ExchangeStates c6 g4 w0 p3@5{1,2} a0 v- y![] r[2:4,2:5] o[] x{} b0" ∷
-    "= 56" ∷
-    "1 ExchangeActions c6 g4 w0 p3@5{1,2} a0 v- y![] r[1:2] o[] x{} b0" ∷
-    "= 57" ∷
-    "2 ExchangeActions c6 g4 w0 p3@5{1,2} a0 v- y![] r[2:4,2:5] o[] x{} b0" ∷
-    "= 60" ∷
-    "2 ExchangeActions c6 g4 w0 p3@5{1,2} a0 v- y![] r[1:2,2:4,2:5] o[] x{} b0" ∷
-    "= 62" ∷
-    "1 Construct c6 g4 w0 p3@5{1,2} a1 v6/3{1,2}{1} y![] r[1:2,2:4,2:5] o[] x{} b0" ∷
-    "= 63" ∷
-    "2 Construct c6 g4 w0 p3@5{1,2} a1 v6/3{1,2}{2} y![] r[1:2,2:4,2:5] o[] x{} b0" ∷
-    "= 64" ∷
-    "2 Construct c6 g4 w0 p3@5{1,2} a1 v6/3{1,2}{2} y![] r[1:2,2:4,2:5] o[] x{} b1" ∷
-    "= 72" ∷
-    "2 Construct c6 g4 w0 p3@5{1,2} a1 v6/3{1,2}{2} y![] r[1:2,2:4,2:5] o[] x{} b2" ∷
-    "= 73" ∷
-    "1 Construct c6 g4 w0 p3@5{1,2} a1 v6/3{1,2}{1} y![] r[1:2,2:4,2:5] o[] x{} b1" ∷
-    "= 75" ∷
-    "made 2:6 move \"y\" \"abc\" 9223372036854775807 ? get \"y\"" ∷
-    "made 2:7 inc \"x\" 8 ? count" ∷
-    "order 5 1:2" ∷
-    "order 6 2:4" ∷
-    "order 7 2:5" ∷
-    "2 RegPrim c6 g7 w4 p4@6{1,2} a0 v6/3{1,2}{2} y- r[] o[2:6,2:7] x{} b0" ∷
-    "reply 2:4 done ? keys" ∷
-    "reply 2:5 aborted 1" ∷
-    "= 76" ∷
-    "1 Un t6 g4 w0 p3@5{1,2} a1 v6/3{1,2}{1} y![] r[1:2,2:4,2:5] o[] x{} b1" ∷
-    "= 77" ∷
-    "1 ExchangeStates c7 g4 w0 p3@5{1,2} a1 v6/3{1,2}{1} y![] r[1:2,2:4,2:5] o[] x{} b1" ∷
-    "= 78" ∷
-    "greens 1 [1:1,2:1,2:2,2:3]" ∷
-    "db 1 \"a\"=47 \"y\"=-2" ∷
-    "= 80" ∷
-    "made 2:8 inc \"k1\" 6; inc \"a\" 3" ∷
-    "2 RegPrim c6 g7 w4 p4@6{1,2} a0 v6/3{1,2}{2} y- r[] o[2:6,2:7,2:8] x{} b0" ∷
-    "= 81" ∷
-    "2 TransPrim t6 g7 w4 p4@6{1,2} a0 v6/3{1,2}{2} y?[2:6,2:7] r[] o[2:8] x{} b0" ∷
-    "= 82" ∷
-    "made 1:3 put \"ab\" 57" ∷
-    "1 NonPrim c7 g4 w0 p3@5{1,2} a1 v6/3{1,2}{1} y![] r[1:2,2:4,2:5] o[1:3] x{} b0" ∷
-    "= 85" ∷
-    "1 NonPrim c7 g4 w0 p3@5{1,2} a1 v6/3{1,2}{1} y![] r[1:2,1:3,2:4,2:5] o[] x{} b0" ∷
-    "end 85" ∷
-    [])
-unfolding cases_compute
-two_replicas_several_primaries_a_from_discarding = refl
-
--- Three replicas form a primary component, and two requests are ordered and answered.
-two_requests_on_three_replicas :
+-- Replicas at the start: 3: a primary is lost in a partition, and after a merge red actions are ordered; a crash strikes inside a device call.
+three_replicas_primary_lost_and_reds_ordered_crash_in_a_device_call_d :
     replayed_text (
     "start 1 2 3" ∷
     "merge 1 2 3" ∷
     "rounds 2" ∷
-    "request 1 put \"x\" 1" ∷
-    "request 2 inc \"x\" 4 ? get \"x\"" ∷
-    "rounds 1" ∷
+    "gather" ∷
+    "gather" ∷
     "show order" ∷
+    "stop 2 5 00a900" ∷
+    "gather" ∷
+    "split 1 2 3" ∷
+    "merge 1 2 3" ∷
+    "gather" ∷
+    "gather" ∷
+    "deliver 3 3" ∷
+    "deliver 2 3" ∷
+    "deliver 1 2" ∷
+    "order 3" ∷
+    "request 1 put \"x\" \"TTTTTTTTTTTTTTTTTTTTTTTTTTTTTTTTTTTTTTTTTTTTTTTTTTTTTTTTTTTTTTTTTTTTTTTTTTTTTTTTTTTTTTTTTTTTTTTTTTTTTTTTTTTTTTTTTTTTTTTTTTTTTTTTTTTTTTTTTTTTTTTTTTTTTTTTTTTTTTTTTTTTTTTTTTTTTTTTTTTTTTTTTTTTTTTTTTTTTTTTTTTTTTTTTTTTTTTTTTTTTTTTTTTTTTTTTTTTTTTTTTTTTTTTTTTTTTTTTTTTTTTTTTTTTTTTTTTTTTTTTTTTTTTTTTTTTTTTTTTTTTTTTTTTTTTTTTTTTTTTTTTTTTTTTTTTTTTTTTTTTTTTTTTTTTTTTTTTTTTTTTTTTTTTTTTTTTTTTTTTTTTTTTTTTTTTTTTTTTTTTTTTTTTTTTTTTTTTTTTTTTTTTTTTTTTTTTTTTTTTTTTTTTTTTTTTTTTTTTTTTTTTTTTTTTTTTTTTTTTTTTTTTTTTTTTTTTTTTTTTTTTTTTTTTTTTTTTTTTTTTTTTTTTTTTTTTTTTTTTTTTTTTTTTTTTTTTTTTTTTTTTTTTTTTTTTTTTTTTTTTTTTTTTTTTTTTTTTTTTTTTTTTTTTTTTTTTTTTTTTTTTTTTTTTTTTTTTTTTTTTTTTTTTTTTTTTTTTTTTTTTTTTTTTTTTTTTTTTTTTTTTTTTTTTTTTTTTTTTTTTTTTTTTTTTTTTTTTTTTTTTTTTTTTTTTTTTTTTTTTTTTTTTTTTTTTTTTTTTTTTTTTTTTTTTTTTTTTTTTTTTTTTTTTTTTTTTTTTTTTTTTTTTTTTTTTTTTTTTTTTTTTTTTTTTTTTTTTTTTTTTTTTTTTTTTTTTTTTTTTTTTTTTTTTTTTTTTTTTTTTTTTTTTTTTTTTTTTTTTTTTTTTTTTTTTTTTTTTTTTTTTTTTTTTTTTTTTTTTTTTTTTTTTTTTTTTTTTTTTTTTTTTTTTTTTTTTTTTTTTTTTTTTTTTTTTTTTTTTTTTTTTTTTTTTTTTTTTTTTTTTTT\" ? get \"y\"" ∷
+    "rounds 2" ∷
+    "recover 2" ∷
+    "split 1 3" ∷
+    "merge 1 2 3" ∷
+    "rounds 2" ∷
+    "split 2" ∷
+    "split 3" ∷
+    "split 1" ∷
+    "merge 2" ∷
+    "merge 3" ∷
+    "merge 1" ∷
+    "gather" ∷
+    "deliver 2 1" ∷
+    "split 2" ∷
+    "split 3" ∷
+    "split 1" ∷
+    "merge 1 2 3" ∷
+    "rounds 3" ∷
+    "request 2 ? count" ∷
+    "split 2" ∷
+    "request 3 put \"z\" 70; inc \"b\" 7; need \"y\" absent" ∷
+    "request 3 move \"b\" \"b\" 5 ? get \"b\"" ∷
+    "gather" ∷
+    "split 1 3" ∷
+    "merge 1 2 3" ∷
+    "request 3 move \"b\" \"abc\" 1; cas \"x\" 69 61; del \"x\"" ∷
+    "show 1" ∷
+    "request 2 inc \"ab\" 2 ? get \"z\"" ∷
+    "request 2 inc \"z\" 0" ∷
+    "rounds 2" ∷
     "end" ∷
     [])
     ≡ written (
@@ -416,185 +77,182 @@ two_requests_on_three_replicas :
     "2 RegPrim c1 g0 w0 p1@1{1,2,3} a0 v1/0{1,2,3}{2} y- r[] o[] x{} b0" ∷
     "= 10" ∷
     "3 RegPrim c1 g0 w0 p1@1{1,2,3} a0 v1/0{1,2,3}{3} y- r[] o[] x{} b0" ∷
-    "= 11" ∷
-    "made 1:1 put \"x\" 1" ∷
-    "1 RegPrim c1 g0 w0 p1@1{1,2,3} a0 v1/0{1,2,3}{1} y- r[] o[1:1] x{} b0" ∷
-    "= 12" ∷
-    "made 2:1 inc \"x\" 4 ? get \"x\"" ∷
-    "2 RegPrim c1 g0 w0 p1@1{1,2,3} a0 v1/0{1,2,3}{2} y- r[] o[2:1] x{} b0" ∷
-    "= 14" ∷
-    "order 1 1:1" ∷
-    "order 2 2:1" ∷
-    "1 RegPrim c1 g2 w0 p1@1{1,2,3} a0 v1/0{1,2,3}{1} y- r[] o[] x{} b0" ∷
-    "reply 1:1 done" ∷
-    "= 15" ∷
-    "2 RegPrim c1 g2 w0 p1@1{1,2,3} a0 v1/0{1,2,3}{2} y- r[] o[] x{} b0" ∷
-    "reply 2:1 done ? 5" ∷
+    "= 13" ∷
+    "all []" ∷
     "= 16" ∷
-    "3 RegPrim c1 g2 w0 p1@1{1,2,3} a0 v1/0{1,2,3}{3} y- r[] o[] x{} b0" ∷
+    "1 TransPrim t1 g0 w0 p1@1{1,2,3} a0 v1/0{1,2,3}{1} y- r[] o[] x{} b0" ∷
+    "2 TransPrim t1 g0 w0 p1@1{1,2,3} a0 v1/0{1,2,3}{2} y- r[] o[] x{} b0" ∷
+    "3 TransPrim t1 g0 w0 p1@1{1,2,3} a0 v1/0{1,2,3}{3} y- r[] o[] x{} b0" ∷
     "= 17" ∷
-    "all [1:1,2:1]" ∷
-    "end 17" ∷
+    "1 ExchangeStates c2 g0 w0 p1@1{1,2,3} a0 v- y![] r[] o[] x{} b0" ∷
+    "2 ExchangeStates c2 g0 w0 p1@1{1,2,3} a0 v- y![] r[] o[] x{} b0" ∷
+    "3 ExchangeStates c2 g0 w0 p1@1{1,2,3} a0 v- y![] r[] o[] x{} b0" ∷
+    "= 20" ∷
+    "3 Construct c2 g0 w0 p1@1{1,2,3} a1 v2/1{1,2,3}{3} y![] r[] o[] x{} b0" ∷
+    "= 21" ∷
+    "2 Down" ∷
+    "= 24" ∷
+    "1 ExchangeStates c2 g0 w0 p1@1{1,2,3} a0 v- y![] r[] o[] x{} b1" ∷
+    "= 26" ∷
+    "1 Construct c2 g0 w0 p1@1{1,2,3} a1 v2/1{1,2,3}{1} y![] r[] o[] x{} b1" ∷
+    "= 28" ∷
+    "2 NonPrim - g0 w0 p1@1{1,2,3} a0 v- y![] r[] o[] x{} b0" ∷
+    "= 29" ∷
+    "1 No t2 g0 w0 p1@1{1,2,3} a1 v2/1{1,2,3}{1} y![] r[] o[] x{} b1" ∷
+    "3 No t2 g0 w0 p1@1{1,2,3} a1 v2/1{1,2,3}{3} y![] r[] o[] x{} b0" ∷
+    "= 30" ∷
+    "1 ExchangeStates c3 g0 w0 p1@1{1,2,3} a1 v- y![] r[] o[] x{} b1" ∷
+    "2 ExchangeStates c3 g0 w0 p1@1{1,2,3} a0 v- y![] r[] o[] x{} b0" ∷
+    "3 ExchangeStates c3 g0 w0 p1@1{1,2,3} a1 v- y![] r[] o[] x{} b0" ∷
+    "= 32" ∷
+    "1 Construct c3 g0 w0 p1@1{1,2,3} a2 v3/1{1,2,3}{1} y![] r[] o[] x{} b1" ∷
+    "= 33" ∷
+    "2 Construct c3 g0 w0 p1@1{1,2,3} a2 v3/1{1,2,3}{2} y![] r[] o[] x{} b0" ∷
+    "= 34" ∷
+    "3 Construct c3 g0 w0 p1@1{1,2,3} a2 v3/1{1,2,3}{3} y![] r[] o[] x{} b0" ∷
+    "= 36" ∷
+    "made 1:1 put \"x\" \"TTTTTTTTTTTTTTTTTTTTTTTTTTTTTTTTTTTTTTTTTTTTTTTTTTTTTTTTTTTTTTTTTTTTTTTTTTTTTTTTTTTTTTTTTTTTTTTTTTTTTTTTTTTTTTTTTTTTTTTTTTTTTTTTTTTTTTTTTTTTTTTTTTTTTTTTTTTTTTTTTTTTTTTTTTTTTTTTTTTTTTTTTTTTTTTTTTTTTTTTTTTTTTTTTTTTTTTTTTTTTTTTTTTTTTTTTTTTTTTTTTTTTTTTTTTTTTTTTTTTTTTTTTTTTTTTTTTTTTTTTTTTTTTTTTTTTTTTTTTTTTTTTTTTTTTTTTTTTTTTTTTTTTTTTTTTTTTTTTTTTTTTTTTTTTTTTTTTTTTTTTTTTTTTTTTTTTTTTTTTTTTTTTTTTTTTTTTTTTTTTTTTTTTTTTTTTTTTTTTTTTTTTTTTTTTTTTTTTTTTTTTTTTTTTTTTTTTTTTTTTTTTTTTTTTTTTTTTTTTTTTTTTTTTTTTTTTTTTTTTTTTTTTTTTTTTTTTTTTTTTTTTTTTTTTTTTTTTTTTTTTTTTTTTTTTTTTTTTTTTTTTTTTTTTTTTTTTTTTTTTTTTTTTTTTTTTTTTTTTTTTTTTTTTTTTTTTTTTTTTTTTTTTTTTTTTTTTTTTTTTTTTTTTTTTTTTTTTTTTTTTTTTTTTTTTTTTTTTTTTTTTTTTTTTTTTTTTTTTTTTTTTTTTTTTTTTTTTTTTTTTTTTTTTTTTTTTTTTTTTTTTTTTTTTTTTTTTTTTTTTTTTTTTTTTTTTTTTTTTTTTTTTTTTTTTTTTTTTTTTTTTTTTTTTTTTTTTTTTTTTTTTTTTTTTTTTTTTTTTTTTTTTTTTTTTTTTTTTTTTTTTTTTTTTTTTTTTTTTTTTTTTTTTTTTTTTTTTTTTTTTTTTTTTTTTTTTTTTTTTTTTTTTTTTTTTTTTTTTTTTTTTTTTTTTTTTTTTTTTTTTTTTTTTTTTTTTTTTTTTTTTTTTTTTTTTTTTTTTTTTTTTTTTTTTTTTTTTTTTTTTTT\" ? get \"y\"" ∷
+    "1 RegPrim c3 g0 w0 p2@3{1,2,3} a0 v3/1{1,2,3}{1} y- r[] o[1:1] x{} b0" ∷
+    "= 37" ∷
+    "2 RegPrim c3 g0 w0 p2@3{1,2,3} a0 v3/1{1,2,3}{2} y- r[] o[] x{} b0" ∷
+    "= 38" ∷
+    "3 RegPrim c3 g0 w0 p2@3{1,2,3} a0 v3/1{1,2,3}{3} y- r[] o[] x{} b0" ∷
+    "= 39" ∷
+    "2 TransPrim t3 g0 w0 p2@3{1,2,3} a0 v3/1{1,2,3}{2} y- r[] o[] x{} b0" ∷
+    "= 40" ∷
+    "3 TransPrim t3 g0 w0 p2@3{1,2,3} a0 v3/1{1,2,3}{3} y- r[] o[] x{} b0" ∷
+    "= 41" ∷
+    "1 TransPrim t3 g0 w0 p2@3{1,2,3} a0 v3/1{1,2,3}{1} y- r[] o[1:1] x{} b0" ∷
+    "= 42" ∷
+    "2 ExchangeStates c4 g0 w0 p2@3{1,2,3} a0 v- y![] r[] o[] x{} b0" ∷
+    "= 43" ∷
+    "3 ExchangeStates c5 g0 w0 p2@3{1,2,3} a0 v- y![] r[] o[] x{} b0" ∷
+    "= 44" ∷
+    "1 ExchangeStates c6 g0 w0 p2@3{1,2,3} a0 v- y![] r[1:1] o[] x{} b0" ∷
+    "= 46" ∷
+    "2 NonPrim c4 g0 w0 p2@3{1,2,3} a0 v- y![] r[] o[] x{} b0" ∷
+    "= 47" ∷
+    "2 NonPrim t4 g0 w0 p2@3{1,2,3} a0 v- y![] r[] o[] x{} b0" ∷
+    "= 48" ∷
+    "3 NonPrim t5 g0 w0 p2@3{1,2,3} a0 v- y![] r[] o[] x{} b0" ∷
+    "= 49" ∷
+    "1 NonPrim t6 g0 w0 p2@3{1,2,3} a0 v- y![] r[1:1] o[] x{} b0" ∷
+    "= 50" ∷
+    "1 ExchangeStates c7 g0 w0 p2@3{1,2,3} a0 v- y![] r[1:1] o[] x{} b0" ∷
+    "2 ExchangeStates c7 g0 w0 p2@3{1,2,3} a0 v- y![] r[] o[] x{} b0" ∷
+    "3 ExchangeStates c7 g0 w0 p2@3{1,2,3} a0 v- y![] r[] o[] x{} b0" ∷
+    "= 52" ∷
+    "1 ExchangeActions c7 g0 w0 p2@3{1,2,3} a0 v- y![] r[1:1] o[] x{} b0" ∷
+    "= 53" ∷
+    "2 ExchangeActions c7 g0 w0 p2@3{1,2,3} a0 v- y![] r[] o[] x{} b0" ∷
+    "= 54" ∷
+    "3 ExchangeActions c7 g0 w0 p2@3{1,2,3} a0 v- y![] r[] o[] x{} b0" ∷
+    "= 56" ∷
+    "1 Construct c7 g0 w0 p2@3{1,2,3} a1 v7/2{1,2,3}{1} y![] r[1:1] o[] x{} b0" ∷
+    "= 57" ∷
+    "2 Construct c7 g0 w0 p2@3{1,2,3} a1 v7/2{1,2,3}{2} y![] r[1:1] o[] x{} b0" ∷
+    "= 58" ∷
+    "3 Construct c7 g0 w0 p2@3{1,2,3} a1 v7/2{1,2,3}{3} y![] r[1:1] o[] x{} b0" ∷
+    "= 60" ∷
+    "order 1 1:1" ∷
+    "1 RegPrim c7 g1 w0 p3@7{1,2,3} a0 v7/2{1,2,3}{1} y- r[] o[] x{} b0" ∷
+    "reply 1:1 done ? absent" ∷
+    "= 61" ∷
+    "2 RegPrim c7 g1 w0 p3@7{1,2,3} a0 v7/2{1,2,3}{2} y- r[] o[] x{} b0" ∷
+    "= 62" ∷
+    "3 RegPrim c7 g1 w0 p3@7{1,2,3} a0 v7/2{1,2,3}{3} y- r[] o[] x{} b0" ∷
+    "= 63" ∷
+    "made 2:1 ? count" ∷
+    "2 RegPrim c7 g1 w0 p3@7{1,2,3} a0 v7/2{1,2,3}{2} y- r[] o[2:1] x{} b0" ∷
+    "= 64" ∷
+    "2 TransPrim t7 g1 w0 p3@7{1,2,3} a0 v7/2{1,2,3}{2} y- r[] o[2:1] x{} b0" ∷
+    "= 65" ∷
+    "made 3:1 put \"z\" 70; inc \"b\" 7; need \"y\" absent" ∷
+    "3 RegPrim c7 g1 w0 p3@7{1,2,3} a0 v7/2{1,2,3}{3} y- r[] o[3:1] x{} b0" ∷
+    "= 66" ∷
+    "made 3:2 move \"b\" \"b\" 5 ? get \"b\"" ∷
+    "3 RegPrim c7 g1 w0 p3@7{1,2,3} a0 v7/2{1,2,3}{3} y- r[] o[3:1,3:2] x{} b0" ∷
+    "= 68" ∷
+    "1 TransPrim t7 g1 w0 p3@7{1,2,3} a0 v7/2{1,2,3}{1} y?[3:1,3:2] r[] o[] x{} b0" ∷
+    "3 TransPrim t7 g1 w0 p3@7{1,2,3} a0 v7/2{1,2,3}{3} y?[3:1,3:2] r[] o[] x{} b0" ∷
+    "= 69" ∷
+    "1 ExchangeStates c8 g1 w0 p3@7{1,2,3} a0 v- y![3:1,3:2] r[] o[] x{} b0" ∷
+    "2 ExchangeStates c8 g1 w0 p3@7{1,2,3} a0 v- y![] r[2:1] o[] x{} b0" ∷
+    "3 ExchangeStates c8 g1 w0 p3@7{1,2,3} a0 v- y![3:1,3:2] r[] o[] x{} b0" ∷
+    "= 70" ∷
+    "3 ExchangeStates c8 g1 w0 p3@7{1,2,3} a0 v- y![3:1,3:2] r[] o[] x{} b1" ∷
+    "= 71" ∷
+    "greens 1 [1:1]" ∷
+    "db 1 \"x\"=\"TTTTTTTTTTTTTTTTTTTTTTTTTTTTTTTTTTTTTTTTTTTTTTTTTTTTTTTTTTTTTTTTTTTTTTTTTTTTTTTTTTTTTTTTTTTTTTTTTTTTTTTTTTTTTTTTTTTTTTTTTTTTTTTTTTTTTTTTTTTTTTTTTTTTTTTTTTTTTTTTTTTTTTTTTTTTTTTTTTTTTTTTTTTTTTTTTTTTTTTTTTTTTTTTTTTTTTTTTTTTTTTTTTTTTTTTTTTTTTTTTTTTTTTTTTTTTTTTTTTTTTTTTTTTTTTTTTTTTTTTTTTTTTTTTTTTTTTTTTTTTTTTTTTTTTTTTTTTTTTTTTTTTTTTTTTTTTTTTTTTTTTTTTTTTTTTTTTTTTTTTTTTTTTTTTTTTTTTTTTTTTTTTTTTTTTTTTTTTTTTTTTTTTTTTTTTTTTTTTTTTTTTTTTTTTTTTTTTTTTTTTTTTTTTTTTTTTTTTTTTTTTTTTTTTTTTTTTTTTTTTTTTTTTTTTTTTTTTTTTTTTTTTTTTTTTTTTTTTTTTTTTTTTTTTTTTTTTTTTTTTTTTTTTTTTTTTTTTTTTTTTTTTTTTTTTTTTTTTTTTTTTTTTTTTTTTTTTTTTTTTTTTTTTTTTTTTTTTTTTTTTTTTTTTTTTTTTTTTTTTTTTTTTTTTTTTTTTTTTTTTTTTTTTTTTTTTTTTTTTTTTTTTTTTTTTTTTTTTTTTTTTTTTTTTTTTTTTTTTTTTTTTTTTTTTTTTTTTTTTTTTTTTTTTTTTTTTTTTTTTTTTTTTTTTTTTTTTTTTTTTTTTTTTTTTTTTTTTTTTTTTTTTTTTTTTTTTTTTTTTTTTTTTTTTTTTTTTTTTTTTTTTTTTTTTTTTTTTTTTTTTTTTTTTTTTTTTTTTTTTTTTTTTTTTTTTTTTTTTTTTTTTTTTTTTTTTTTTTTTTTTTTTTTTTTTTTTTTTTTTTTTTTTTTTTTTTTTTTTTTTTTTTTTTTTTTTTTTTTTTTTTTTTTTTTTTTTTTTTTTTTTTTTTTTTTTTTTTTTTTTTTT\"" ∷
+    "= 72" ∷
+    "2 ExchangeStates c8 g1 w0 p3@7{1,2,3} a0 v- y![] r[2:1] o[] x{} b1" ∷
+    "= 73" ∷
+    "2 ExchangeStates c8 g1 w0 p3@7{1,2,3} a0 v- y![] r[2:1] o[] x{} b2" ∷
+    "= 75" ∷
+    "1 ExchangeActions c8 g1 w0 p3@7{1,2,3} a0 v- y![3:1,3:2] r[] o[] x{} b0" ∷
+    "= 76" ∷
+    "2 ExchangeActions c8 g1 w0 p3@7{1,2,3} a0 v- y![] r[2:1] o[] x{} b2" ∷
+    "= 77" ∷
+    "3 ExchangeActions c8 g1 w0 p3@7{1,2,3} a0 v- y![3:1,3:2] r[] o[] x{} b1" ∷
+    "= 79" ∷
+    "1 ExchangeActions c8 g1 w0 p3@7{1,2,3} a0 v- y![3:1,3:2] r[2:1] o[] x{} b0" ∷
+    "= 81" ∷
+    "3 ExchangeActions c8 g1 w0 p3@7{1,2,3} a0 v- y![3:1,3:2] r[2:1] o[] x{} b1" ∷
+    "end 81" ∷
     [])
 unfolding cases_compute
-two_requests_on_three_replicas = refl
+three_replicas_primary_lost_and_reds_ordered_crash_in_a_device_call_d = refl
 
--- A weight of one is not written.
-weight_of_one_has_no_spelling :
-    replayed_text (
-    "start 1*1" ∷
-    [])
-    ≡ written (
-    "syntax 1 5" ∷
-    [])
-unfolding cases_compute
-weight_of_one_has_no_spelling = refl
-
--- who has left need not be named in a merge
-who_has_left_need_not_be_named_in_a_merge :
+-- Replicas at the start: 3: a primary is lost in a partition, and after a merge red actions are ordered; a crash strikes inside a device call.
+three_replicas_primary_lost_and_reds_ordered_crash_in_a_device_call_g :
     replayed_text (
     "start 1 2 3" ∷
-    "merge 1 2 3" ∷
+    "merge 3" ∷
+    "merge 1 2" ∷
     "rounds 2" ∷
+    "request 1 inc \"b\" 1" ∷
+    "request 3 del \"z\"" ∷
+    "gather" ∷
+    "split 1 2" ∷
+    "split 3" ∷
+    "merge 1 2 3" ∷
+    "gather" ∷
+    "request 3 move \"z\" \"a\" 9223372036854775807" ∷
+    "request 2 inc \"a\" 12; inc \"abc\" 0" ∷
+    "request 1 inc \"b\" 1 ? get \"a\"" ∷
+    "split 2 3" ∷
+    "split 1" ∷
+    "merge 1 2 3" ∷
+    "request 2 inc \"ab\" -9223372036854775808 ? keys \"q\"" ∷
+    "order 1" ∷
+    "gather" ∷
     "split 1 2" ∷
     "split 3" ∷
     "merge 1 2" ∷
     "merge 3" ∷
-    "rounds 2" ∷
-    "leave 1 3" ∷
-    "rounds 1" ∷
-    "split 1 2" ∷
+    "split 1" ∷
+    "split 2" ∷
     "split 3" ∷
     "merge 1 2 3" ∷
-    "rounds 3" ∷
-    "split 1 2 3" ∷
-    "merge 1 2" ∷
-    "rounds 3" ∷
-    "request 1 put \"a\" 1 ? count" ∷
-    "rounds 1" ∷
-    "show 3" ∷
-    "show order" ∷
-    "end" ∷
-    [])
-    ≡ written (
-    "= 1" ∷
-    "1 NonPrim - g0 w0 p0@0{1,2,3} a0 v- y- r[] o[] x{} b0" ∷
-    "2 NonPrim - g0 w0 p0@0{1,2,3} a0 v- y- r[] o[] x{} b0" ∷
-    "3 NonPrim - g0 w0 p0@0{1,2,3} a0 v- y- r[] o[] x{} b0" ∷
-    "= 2" ∷
-    "1 ExchangeStates c1 g0 w0 p0@0{1,2,3} a0 v- y- r[] o[] x{} b0" ∷
-    "2 ExchangeStates c1 g0 w0 p0@0{1,2,3} a0 v- y- r[] o[] x{} b0" ∷
-    "3 ExchangeStates c1 g0 w0 p0@0{1,2,3} a0 v- y- r[] o[] x{} b0" ∷
-    "= 4" ∷
-    "1 Construct c1 g0 w0 p0@0{1,2,3} a1 v1/0{1,2,3}{1} y- r[] o[] x{} b0" ∷
-    "= 5" ∷
-    "2 Construct c1 g0 w0 p0@0{1,2,3} a1 v1/0{1,2,3}{2} y- r[] o[] x{} b0" ∷
-    "= 6" ∷
-    "3 Construct c1 g0 w0 p0@0{1,2,3} a1 v1/0{1,2,3}{3} y- r[] o[] x{} b0" ∷
-    "= 8" ∷
-    "1 RegPrim c1 g0 w0 p1@1{1,2,3} a0 v1/0{1,2,3}{1} y- r[] o[] x{} b0" ∷
-    "= 9" ∷
-    "2 RegPrim c1 g0 w0 p1@1{1,2,3} a0 v1/0{1,2,3}{2} y- r[] o[] x{} b0" ∷
-    "= 10" ∷
-    "3 RegPrim c1 g0 w0 p1@1{1,2,3} a0 v1/0{1,2,3}{3} y- r[] o[] x{} b0" ∷
-    "= 11" ∷
-    "1 TransPrim t1 g0 w0 p1@1{1,2,3} a0 v1/0{1,2,3}{1} y- r[] o[] x{} b0" ∷
-    "2 TransPrim t1 g0 w0 p1@1{1,2,3} a0 v1/0{1,2,3}{2} y- r[] o[] x{} b0" ∷
-    "= 12" ∷
-    "3 TransPrim t1 g0 w0 p1@1{1,2,3} a0 v1/0{1,2,3}{3} y- r[] o[] x{} b0" ∷
-    "= 13" ∷
-    "1 ExchangeStates c2 g0 w0 p1@1{1,2,3} a0 v- y![] r[] o[] x{} b0" ∷
-    "2 ExchangeStates c2 g0 w0 p1@1{1,2,3} a0 v- y![] r[] o[] x{} b0" ∷
-    "= 14" ∷
-    "3 ExchangeStates c3 g0 w0 p1@1{1,2,3} a0 v- y![] r[] o[] x{} b0" ∷
-    "= 16" ∷
-    "1 Construct c2 g0 w0 p1@1{1,2,3} a1 v2/1{1,2}{1} y![] r[] o[] x{} b0" ∷
-    "= 17" ∷
-    "2 Construct c2 g0 w0 p1@1{1,2,3} a1 v2/1{1,2}{2} y![] r[] o[] x{} b0" ∷
-    "= 18" ∷
-    "3 NonPrim c3 g0 w0 p1@1{1,2,3} a0 v- y![] r[] o[] x{} b0" ∷
-    "= 20" ∷
-    "1 RegPrim c2 g0 w0 p2@2{1,2} a0 v2/1{1,2}{1} y- r[] o[] x{} b0" ∷
-    "= 21" ∷
-    "2 RegPrim c2 g0 w0 p2@2{1,2} a0 v2/1{1,2}{2} y- r[] o[] x{} b0" ∷
-    "= 22" ∷
-    "made 1:1 leave 3" ∷
-    "1 RegPrim c2 g0 w0 p2@2{1,2} a0 v2/1{1,2}{1} y- r[] o[1:1] x{} b0" ∷
-    "= 24" ∷
-    "order 1 1:1" ∷
-    "1 RegPrim c2 g1 w0 p2@2{1,2} a0 v2/1{1,2}{1} y- r[] o[] x{3} b0" ∷
-    "reply 1:1 done" ∷
-    "= 25" ∷
-    "2 RegPrim c2 g1 w0 p2@2{1,2} a0 v2/1{1,2}{2} y- r[] o[] x{3} b0" ∷
-    "= 26" ∷
-    "1 TransPrim t2 g1 w0 p2@2{1,2} a0 v2/1{1,2}{1} y- r[] o[] x{3} b0" ∷
-    "2 TransPrim t2 g1 w0 p2@2{1,2} a0 v2/1{1,2}{2} y- r[] o[] x{3} b0" ∷
-    "= 27" ∷
-    "3 NonPrim t3 g0 w0 p1@1{1,2,3} a0 v- y![] r[] o[] x{} b0" ∷
-    "= 28" ∷
-    "1 ExchangeStates c4 g1 w0 p2@2{1,2} a0 v- y![] r[] o[] x{3} b0" ∷
-    "2 ExchangeStates c4 g1 w0 p2@2{1,2} a0 v- y![] r[] o[] x{3} b0" ∷
-    "3 ExchangeStates c4 g0 w0 p1@1{1,2,3} a0 v- y![] r[] o[] x{} b0" ∷
-    "= 30" ∷
-    "1 Construct c4 g1 w0 p2@2{1,2} a1 v4/2{1,2}{1} y![] r[] o[] x{3} b0" ∷
-    "= 31" ∷
-    "2 Construct c4 g1 w0 p2@2{1,2} a1 v4/2{1,2}{2} y![] r[] o[] x{3} b0" ∷
-    "= 32" ∷
-    "3 Left c4 g0 w0 p1@1{1,2,3} a0 v- y![] r[] o[] x{} b0" ∷
-    "= 34" ∷
-    "1 RegPrim c4 g1 w0 p3@4{1,2} a0 v4/2{1,2}{1} y- r[] o[] x{3} b0" ∷
-    "= 35" ∷
-    "2 RegPrim c4 g1 w0 p3@4{1,2} a0 v4/2{1,2}{2} y- r[] o[] x{3} b0" ∷
-    "= 38" ∷
-    "1 TransPrim t4 g1 w0 p3@4{1,2} a0 v4/2{1,2}{1} y- r[] o[] x{3} b0" ∷
-    "2 TransPrim t4 g1 w0 p3@4{1,2} a0 v4/2{1,2}{2} y- r[] o[] x{3} b0" ∷
-    "3 Left t4 g0 w0 p1@1{1,2,3} a0 v- y![] r[] o[] x{} b0" ∷
-    "= 39" ∷
-    "1 ExchangeStates c5 g1 w0 p3@4{1,2} a0 v- y![] r[] o[] x{3} b0" ∷
-    "2 ExchangeStates c5 g1 w0 p3@4{1,2} a0 v- y![] r[] o[] x{3} b0" ∷
-    "= 41" ∷
-    "1 Construct c5 g1 w0 p3@4{1,2} a1 v5/3{1,2}{1} y![] r[] o[] x{3} b0" ∷
-    "= 42" ∷
-    "2 Construct c5 g1 w0 p3@4{1,2} a1 v5/3{1,2}{2} y![] r[] o[] x{3} b0" ∷
-    "= 44" ∷
-    "1 RegPrim c5 g1 w0 p4@5{1,2} a0 v5/3{1,2}{1} y- r[] o[] x{3} b0" ∷
-    "= 45" ∷
-    "2 RegPrim c5 g1 w0 p4@5{1,2} a0 v5/3{1,2}{2} y- r[] o[] x{3} b0" ∷
-    "= 47" ∷
-    "made 1:2 put \"a\" 1 ? count" ∷
-    "1 RegPrim c5 g1 w0 p4@5{1,2} a0 v5/3{1,2}{1} y- r[] o[1:2] x{3} b0" ∷
-    "= 49" ∷
-    "order 2 1:2" ∷
-    "1 RegPrim c5 g2 w0 p4@5{1,2} a0 v5/3{1,2}{1} y- r[] o[] x{3} b0" ∷
-    "reply 1:2 done ? count 1" ∷
-    "= 50" ∷
-    "2 RegPrim c5 g2 w0 p4@5{1,2} a0 v5/3{1,2}{2} y- r[] o[] x{3} b0" ∷
-    "= 51" ∷
-    "greens 3 []" ∷
-    "db 3" ∷
-    "= 52" ∷
-    "all [1:1,1:2]" ∷
-    "end 52" ∷
-    [])
-unfolding cases_compute
-who_has_left_need_not_be_named_in_a_merge = refl
-
--- Only what stands in every valid yellow list stays yellow.
-yellow_action_not_in_every_list_a :
-    replayed_text (
-    "start 1 2 3" ∷
-    "merge 1 2 3" ∷
-    "rounds 2" ∷
-    "split 2 3" ∷
-    "request 1 del \"k1\"; put \"x\" 18; need \"y\" 97; need \"b\" absent; cas \"abc\" -1 12; cas \"abc\" absent -1; put \"a\" 40; inc \"b\" -3; put \"k1\" 97; need \"y\" absent; inc \"z\" 0; put \"a\" -9223372036854775807; put \"z\" 70; inc \"x\" 1; move \"y\" \"a\" 9223372036854775807; inc \"y\" -9223372036854775808" ∷
     "gather" ∷
-    "split 1" ∷
-    "merge 1 2 3" ∷
+    "request 2 put \"a\" 40" ∷
+    "rounds 1" ∷
+    "gather" ∷
+    "deliver 1 1" ∷
+    "rounds 2" ∷
+    "request 3 put \"y\" 92" ∷
     "split 1 2 3" ∷
     "merge 1 2 3" ∷
-    "split 1 2 3" ∷
-    "merge 1 2 3" ∷
-    "rounds 3" ∷
+    "stop 1 7 01010101010101010101010101010101010101010101010101010101010101010101010101010101010101010101010101010101010101010101010101010101010101010101010101010101010101010101010101010101010101010101010101010101" ∷
+    "gather" ∷
+    "deliver 2 3" ∷
+    "request 2 put \"y\" 55 ? keys \"x\"" ∷
+    "rounds 1" ∷
+    "request 2 need \"a\" \"; ? #\"" ∷
+    "request 3 inc \"z\" 9 ? get \"x\"" ∷
+    "request 2 put \"x\" \"12\" ? count" ∷
+    "request 1 need \"b\" \"absent\"" ∷
+    "rounds 1" ∷
     "end" ∷
     [])
     ≡ written (
@@ -603,85 +261,198 @@ yellow_action_not_in_every_list_a :
     "2 NonPrim - g0 w0 p0@0{1,2,3} a0 v- y- r[] o[] x{} b0" ∷
     "3 NonPrim - g0 w0 p0@0{1,2,3} a0 v- y- r[] o[] x{} b0" ∷
     "= 2" ∷
-    "1 ExchangeStates c1 g0 w0 p0@0{1,2,3} a0 v- y- r[] o[] x{} b0" ∷
-    "2 ExchangeStates c1 g0 w0 p0@0{1,2,3} a0 v- y- r[] o[] x{} b0" ∷
     "3 ExchangeStates c1 g0 w0 p0@0{1,2,3} a0 v- y- r[] o[] x{} b0" ∷
-    "= 4" ∷
-    "1 Construct c1 g0 w0 p0@0{1,2,3} a1 v1/0{1,2,3}{1} y- r[] o[] x{} b0" ∷
+    "= 3" ∷
+    "1 ExchangeStates c2 g0 w0 p0@0{1,2,3} a0 v- y- r[] o[] x{} b0" ∷
+    "2 ExchangeStates c2 g0 w0 p0@0{1,2,3} a0 v- y- r[] o[] x{} b0" ∷
     "= 5" ∷
-    "2 Construct c1 g0 w0 p0@0{1,2,3} a1 v1/0{1,2,3}{2} y- r[] o[] x{} b0" ∷
+    "1 Construct c2 g0 w0 p0@0{1,2,3} a1 v2/0{1,2}{1} y- r[] o[] x{} b0" ∷
     "= 6" ∷
-    "3 Construct c1 g0 w0 p0@0{1,2,3} a1 v1/0{1,2,3}{3} y- r[] o[] x{} b0" ∷
-    "= 8" ∷
-    "1 RegPrim c1 g0 w0 p1@1{1,2,3} a0 v1/0{1,2,3}{1} y- r[] o[] x{} b0" ∷
+    "2 Construct c2 g0 w0 p0@0{1,2,3} a1 v2/0{1,2}{2} y- r[] o[] x{} b0" ∷
+    "= 7" ∷
+    "3 NonPrim c1 g0 w0 p0@0{1,2,3} a0 v- y- r[] o[] x{} b0" ∷
     "= 9" ∷
-    "2 RegPrim c1 g0 w0 p1@1{1,2,3} a0 v1/0{1,2,3}{2} y- r[] o[] x{} b0" ∷
+    "1 RegPrim c2 g0 w0 p1@2{1,2} a0 v2/0{1,2}{1} y- r[] o[] x{} b0" ∷
     "= 10" ∷
-    "3 RegPrim c1 g0 w0 p1@1{1,2,3} a0 v1/0{1,2,3}{3} y- r[] o[] x{} b0" ∷
+    "2 RegPrim c2 g0 w0 p1@2{1,2} a0 v2/0{1,2}{2} y- r[] o[] x{} b0" ∷
     "= 11" ∷
-    "2 TransPrim t1 g0 w0 p1@1{1,2,3} a0 v1/0{1,2,3}{2} y- r[] o[] x{} b0" ∷
-    "3 TransPrim t1 g0 w0 p1@1{1,2,3} a0 v1/0{1,2,3}{3} y- r[] o[] x{} b0" ∷
+    "made 1:1 inc \"b\" 1" ∷
+    "1 RegPrim c2 g0 w0 p1@2{1,2} a0 v2/0{1,2}{1} y- r[] o[1:1] x{} b0" ∷
     "= 12" ∷
-    "made 1:1 del \"k1\"; put \"x\" 18; need \"y\" 97; need \"b\" absent; cas \"abc\" -1 12; cas \"abc\" absent -1; put \"a\" 40; inc \"b\" -3; put \"k1\" 97; need \"y\" absent; inc \"z\" 0; put \"a\" -9223372036854775807; put \"z\" 70; inc \"x\" 1; move \"y\" \"a\" 9223372036854775807; inc \"y\" -9223372036854775808" ∷
-    "1 RegPrim c1 g0 w0 p1@1{1,2,3} a0 v1/0{1,2,3}{1} y- r[] o[1:1] x{} b0" ∷
+    "made 3:1 del \"z\"" ∷
+    "3 NonPrim c1 g0 w0 p0@0{1,2,3} a0 v- y- r[] o[3:1] x{} b0" ∷
     "= 14" ∷
-    "1 TransPrim t1 g0 w0 p1@1{1,2,3} a0 v1/0{1,2,3}{1} y?[1:1] r[] o[] x{} b0" ∷
+    "1 TransPrim t2 g0 w0 p1@2{1,2} a0 v2/0{1,2}{1} y?[1:1] r[] o[] x{} b0" ∷
+    "2 TransPrim t2 g0 w0 p1@2{1,2} a0 v2/0{1,2}{2} y?[1:1] r[] o[] x{} b0" ∷
     "= 15" ∷
-    "1 ExchangeStates c2 g0 w0 p1@1{1,2,3} a0 v- y![1:1] r[] o[] x{} b0" ∷
-    "2 ExchangeStates c2 g0 w0 p1@1{1,2,3} a0 v- y![] r[] o[] x{} b0" ∷
-    "3 ExchangeStates c2 g0 w0 p1@1{1,2,3} a0 v- y![] r[] o[] x{} b0" ∷
+    "3 NonPrim t1 g0 w0 p0@0{1,2,3} a0 v- y- r[3:1] o[] x{} b0" ∷
     "= 16" ∷
-    "1 NonPrim t2 g0 w0 p1@1{1,2,3} a0 v- y![1:1] r[] o[] x{} b0" ∷
-    "2 NonPrim t2 g0 w0 p1@1{1,2,3} a0 v- y![] r[] o[] x{} b0" ∷
-    "3 NonPrim t2 g0 w0 p1@1{1,2,3} a0 v- y![] r[] o[] x{} b0" ∷
-    "= 17" ∷
-    "1 ExchangeStates c3 g0 w0 p1@1{1,2,3} a0 v- y![1:1] r[] o[] x{} b0" ∷
-    "2 ExchangeStates c3 g0 w0 p1@1{1,2,3} a0 v- y![] r[] o[] x{} b0" ∷
-    "3 ExchangeStates c3 g0 w0 p1@1{1,2,3} a0 v- y![] r[] o[] x{} b0" ∷
+    "1 ExchangeStates c3 g0 w0 p1@2{1,2} a0 v- y![1:1] r[] o[] x{} b0" ∷
+    "2 ExchangeStates c3 g0 w0 p1@2{1,2} a0 v- y![1:1] r[] o[] x{} b0" ∷
+    "3 ExchangeStates c3 g0 w0 p0@0{1,2,3} a0 v- y- r[3:1] o[] x{} b0" ∷
     "= 18" ∷
-    "1 NonPrim t3 g0 w0 p1@1{1,2,3} a0 v- y![1:1] r[] o[] x{} b0" ∷
-    "2 NonPrim t3 g0 w0 p1@1{1,2,3} a0 v- y![] r[] o[] x{} b0" ∷
-    "3 NonPrim t3 g0 w0 p1@1{1,2,3} a0 v- y![] r[] o[] x{} b0" ∷
+    "3 ExchangeStates c3 g0 w0 p0@0{1,2,3} a0 v- y- r[3:1] o[] x{} b1" ∷
     "= 19" ∷
-    "1 ExchangeStates c4 g0 w0 p1@1{1,2,3} a0 v- y![1:1] r[] o[] x{} b0" ∷
-    "2 ExchangeStates c4 g0 w0 p1@1{1,2,3} a0 v- y![] r[] o[] x{} b0" ∷
-    "3 ExchangeStates c4 g0 w0 p1@1{1,2,3} a0 v- y![] r[] o[] x{} b0" ∷
+    "2 ExchangeStates c3 g0 w0 p1@2{1,2} a0 v- y![1:1] r[] o[] x{} b1" ∷
+    "= 20" ∷
+    "1 ExchangeStates c3 g0 w0 p1@2{1,2} a0 v- y![1:1] r[] o[] x{} b1" ∷
     "= 21" ∷
-    "1 ExchangeActions c4 g0 w0 p1@1{1,2,3} a0 v- y![1:1] r[] o[] x{} b0" ∷
+    "2 NonPrim t3 g0 w0 p1@2{1,2} a0 v- y![1:1] r[] o[] x{} b1" ∷
+    "3 NonPrim t3 g0 w0 p0@0{1,2,3} a0 v- y- r[3:1] o[] x{} b1" ∷
     "= 22" ∷
-    "2 ExchangeActions c4 g0 w0 p1@1{1,2,3} a0 v- y![] r[] o[] x{} b0" ∷
+    "1 NonPrim t3 g0 w0 p1@2{1,2} a0 v- y![1:1] r[] o[] x{} b1" ∷
     "= 23" ∷
-    "3 ExchangeActions c4 g0 w0 p1@1{1,2,3} a0 v- y![] r[] o[] x{} b0" ∷
-    "= 25" ∷
-    "1 Construct c4 g0 w0 p1@1{1,2,3} a1 v4/1{1,2,3}{1} y![] r[1:1] o[] x{} b0" ∷
-    "= 26" ∷
-    "2 Construct c4 g0 w0 p1@1{1,2,3} a1 v4/1{1,2,3}{2} y![] r[1:1] o[] x{} b0" ∷
+    "1 ExchangeStates c4 g0 w0 p1@2{1,2} a0 v- y![1:1] r[] o[] x{} b1" ∷
+    "2 ExchangeStates c4 g0 w0 p1@2{1,2} a0 v- y![1:1] r[] o[] x{} b1" ∷
+    "3 ExchangeStates c4 g0 w0 p0@0{1,2,3} a0 v- y- r[3:1] o[] x{} b1" ∷
+    "= 24" ∷
+    "2 ExchangeStates c4 g0 w0 p1@2{1,2} a0 v- y![1:1] r[] o[] x{} b2" ∷
     "= 27" ∷
-    "3 Construct c4 g0 w0 p1@1{1,2,3} a1 v4/1{1,2,3}{3} y![] r[1:1] o[] x{} b0" ∷
+    "1 NonPrim t4 g0 w0 p1@2{1,2} a0 v- y![1:1] r[] o[] x{} b1" ∷
+    "2 NonPrim t4 g0 w0 p1@2{1,2} a0 v- y![1:1] r[] o[] x{} b2" ∷
+    "= 28" ∷
+    "3 NonPrim t4 g0 w0 p0@0{1,2,3} a0 v- y- r[3:1] o[] x{} b1" ∷
     "= 29" ∷
-    "order 1 1:1" ∷
-    "1 RegPrim c4 g1 w0 p2@4{1,2,3} a0 v4/1{1,2,3}{1} y- r[] o[] x{} b0" ∷
-    "reply 1:1 aborted 3" ∷
+    "1 ExchangeStates c5 g0 w0 p1@2{1,2} a0 v- y![1:1] r[] o[] x{} b1" ∷
+    "2 ExchangeStates c5 g0 w0 p1@2{1,2} a0 v- y![1:1] r[] o[] x{} b2" ∷
     "= 30" ∷
-    "2 RegPrim c4 g1 w0 p2@4{1,2,3} a0 v4/1{1,2,3}{2} y- r[] o[] x{} b0" ∷
+    "3 ExchangeStates c6 g0 w0 p0@0{1,2,3} a0 v- y- r[3:1] o[] x{} b1" ∷
     "= 31" ∷
-    "3 RegPrim c4 g1 w0 p2@4{1,2,3} a0 v4/1{1,2,3}{3} y- r[] o[] x{} b0" ∷
-    "end 31" ∷
+    "1 NonPrim t5 g0 w0 p1@2{1,2} a0 v- y![1:1] r[] o[] x{} b1" ∷
+    "= 32" ∷
+    "2 NonPrim t5 g0 w0 p1@2{1,2} a0 v- y![1:1] r[] o[] x{} b2" ∷
+    "= 33" ∷
+    "3 NonPrim t6 g0 w0 p0@0{1,2,3} a0 v- y- r[3:1] o[] x{} b1" ∷
+    "= 34" ∷
+    "1 ExchangeStates c7 g0 w0 p1@2{1,2} a0 v- y![1:1] r[] o[] x{} b1" ∷
+    "2 ExchangeStates c7 g0 w0 p1@2{1,2} a0 v- y![1:1] r[] o[] x{} b2" ∷
+    "3 ExchangeStates c7 g0 w0 p0@0{1,2,3} a0 v- y- r[3:1] o[] x{} b1" ∷
+    "= 36" ∷
+    "2 ExchangeStates c7 g0 w0 p1@2{1,2} a0 v- y![1:1] r[] o[] x{} b3" ∷
+    "= 38" ∷
+    "1 ExchangeActions c7 g0 w0 p1@2{1,2} a0 v- y![1:1] r[] o[] x{} b1" ∷
+    "= 39" ∷
+    "2 ExchangeActions c7 g0 w0 p1@2{1,2} a0 v- y![1:1] r[] o[] x{} b3" ∷
+    "= 40" ∷
+    "3 ExchangeActions c7 g0 w0 p0@0{1,2,3} a0 v- y- r[3:1] o[] x{} b1" ∷
+    "= 45" ∷
+    "3 ExchangeActions c7 g0 w0 p0@0{1,2,3} a0 v- y- r[1:1,3:1] o[] x{} b1" ∷
+    "= 47" ∷
+    "1 Construct c7 g0 w0 p1@2{1,2} a1 v7/1{1,2,3}{1} y![1:1] r[3:1] o[] x{} b1" ∷
+    "= 48" ∷
+    "2 Construct c7 g0 w0 p1@2{1,2} a1 v7/1{1,2,3}{2} y![1:1] r[3:1] o[] x{} b3" ∷
+    "= 49" ∷
+    "3 Construct c7 g0 w0 p1@2{1,2} a1 v7/1{1,2,3}{3} y![1:1] r[3:1] o[] x{} b1" ∷
+    "= 50" ∷
+    "3 Construct c7 g0 w0 p1@2{1,2} a1 v7/1{1,2,3}{3} y![1:1] r[3:1] o[] x{} b2" ∷
+    "= 51" ∷
+    "1 No t7 g0 w0 p1@2{1,2} a1 v7/1{1,2,3}{1} y![1:1] r[3:1] o[] x{} b1" ∷
+    "2 No t7 g0 w0 p1@2{1,2} a1 v7/1{1,2,3}{2} y![1:1] r[3:1] o[] x{} b3" ∷
+    "3 No t7 g0 w0 p1@2{1,2} a1 v7/1{1,2,3}{3} y![1:1] r[3:1] o[] x{} b2" ∷
+    "= 52" ∷
+    "1 ExchangeStates c8 g0 w0 p1@2{1,2} a1 v- y![1:1] r[3:1] o[] x{} b1" ∷
+    "2 ExchangeStates c8 g0 w0 p1@2{1,2} a1 v- y![1:1] r[3:1] o[] x{} b3" ∷
+    "3 ExchangeStates c8 g0 w0 p1@2{1,2} a1 v- y![1:1] r[3:1] o[] x{} b2" ∷
+    "= 55" ∷
+    "2 Construct c8 g0 w0 p1@2{1,2} a2 v8/1{1,2,3}{2} y![1:1] r[3:1] o[] x{} b3" ∷
+    "= 56" ∷
+    "2 Construct c8 g0 w0 p1@2{1,2} a2 v8/1{1,2,3}{2} y![1:1] r[3:1] o[] x{} b4" ∷
+    "= 58" ∷
+    "1 Construct c8 g0 w0 p1@2{1,2} a2 v8/1{1,2,3}{1} y![1:1] r[3:1] o[] x{} b1" ∷
+    "= 60" ∷
+    "3 Construct c8 g0 w0 p1@2{1,2} a2 v8/1{1,2,3}{3} y![1:1] r[3:1] o[] x{} b2" ∷
+    "= 61" ∷
+    "2 Construct c8 g0 w0 p1@2{1,2} a2 v8/1{1,2,3}{2} y![1:1] r[3:1] o[] x{} b5" ∷
+    "= 62" ∷
+    "3 Construct c8 g0 w0 p1@2{1,2} a2 v8/1{1,2,3}{3} y![1:1] r[3:1] o[] x{} b3" ∷
+    "= 63" ∷
+    "2 Construct c8 g0 w0 p1@2{1,2} a2 v8/1{1,2,3}{2} y![1:1] r[3:1] o[] x{} b6" ∷
+    "= 64" ∷
+    "1 Construct c8 g0 w0 p1@2{1,2} a2 v8/1{1,2,3}{1} y![1:1] r[3:1] o[] x{} b2" ∷
+    "= 66" ∷
+    "1 Down" ∷
+    "= 67" ∷
+    "made 2:1 inc \"a\" 12; inc \"abc\" 0" ∷
+    "made 2:2 inc \"ab\" -9223372036854775808 ? keys \"q\"" ∷
+    "made 2:3 put \"a\" 40" ∷
+    "made 2:4 put \"y\" 55 ? keys \"x\"" ∷
+    "made 2:5 need \"a\" \"; ? #\"" ∷
+    "made 2:6 put \"x\" \"12\" ? count" ∷
+    "order 1 1:1" ∷
+    "order 2 3:1" ∷
+    "2 RegPrim c8 g2 w0 p2@8{1,2,3} a0 v8/1{1,2,3}{2} y- r[] o[2:1,2:2,2:3,2:4,2:5,2:6] x{} b0" ∷
+    "= 68" ∷
+    "made 3:2 move \"z\" \"a\" 9223372036854775807" ∷
+    "made 3:3 put \"y\" 92" ∷
+    "made 3:4 inc \"z\" 9 ? get \"x\"" ∷
+    "3 RegPrim c8 g2 w0 p2@8{1,2,3} a0 v8/1{1,2,3}{3} y- r[] o[3:2,3:3,3:4] x{} b0" ∷
+    "reply 3:1 done" ∷
+    "end 68" ∷
     [])
 unfolding cases_compute
-yellow_action_not_in_every_list_a = refl
+three_replicas_primary_lost_and_reds_ordered_crash_in_a_device_call_g = refl
 
--- Only what stands in every valid yellow list stays yellow.
-yellow_action_not_in_every_list_b :
+-- Replicas at the start: 3: a primary is lost in a partition, and after a merge red actions are ordered; a crash strikes inside a device call; a server that was removed is told so.
+three_replicas_primary_lost_and_reds_ordered_crash_in_a_device_call_leaver_a :
     replayed_text (
     "start 1 2 3" ∷
     "merge 1 2 3" ∷
-    "rounds 2" ∷
-    "request 1 inc \"x\" -2" ∷
-    "order 1" ∷
-    "split 1" ∷
-    "split 2 3" ∷
+    "rounds 1" ∷
+    "split 1 2 3" ∷
     "merge 1 2 3" ∷
+    "rounds 3" ∷
+    "rounds 4" ∷
+    "gather" ∷
+    "rounds 3" ∷
+    "rounds 2" ∷
+    "gather" ∷
+    "leave 2 1" ∷
+    "rounds 4" ∷
+    "show 2" ∷
+    "rounds 1" ∷
+    "rounds 2" ∷
+    "rounds 1" ∷
+    "rounds 2" ∷
+    "request 2 put \"ab\" 78 ? get \"ab\"" ∷
+    "rounds 1" ∷
+    "request 3 cas \"a\" \"12\" 96" ∷
+    "split 2" ∷
+    "split 1 3" ∷
+    "merge 1 3" ∷
+    "join 3 20" ∷
+    "rounds 1" ∷
+    "request 3 put \"z\" \"back\\\\slash\"" ∷
+    "request 2 put \"a\" 55" ∷
+    "gather" ∷
+    "gather" ∷
+    "deliver 1 2" ∷
+    "deliver 3 2" ∷
+    "gather" ∷
+    "merge 2" ∷
+    "gather" ∷
+    "split 2" ∷
+    "merge 2" ∷
+    "rounds 1" ∷
+    "split 1" ∷
+    "split 3" ∷
+    "merge 3" ∷
+    "request 2 put \"y\" 10; move \"z\" \"x\" 9223372036854775807; need \"x\" absent ? count" ∷
+    "split 2" ∷
+    "split 3" ∷
+    "merge 2 3" ∷
+    "rounds 4" ∷
+    "request 2 put \"b\" 5" ∷
+    "rounds 2" ∷
+    "split 3" ∷
+    "split 2" ∷
+    "merge 2" ∷
+    "merge 3" ∷
+    "rounds 2" ∷
+    "rounds 1" ∷
+    "stop 2 3 -" ∷
+    "request 2 inc \"x\" -9223372036854775808" ∷
+    "rounds 3" ∷
+    "request 3 move \"x\" \"z\" 7" ∷
     "rounds 3" ∷
     "end" ∷
     [])
@@ -700,45 +471,156 @@ yellow_action_not_in_every_list_b :
     "2 Construct c1 g0 w0 p0@0{1,2,3} a1 v1/0{1,2,3}{2} y- r[] o[] x{} b0" ∷
     "= 6" ∷
     "3 Construct c1 g0 w0 p0@0{1,2,3} a1 v1/0{1,2,3}{3} y- r[] o[] x{} b0" ∷
+    "= 7" ∷
+    "1 No t1 g0 w0 p0@0{1,2,3} a1 v1/0{1,2,3}{1} y- r[] o[] x{} b0" ∷
+    "2 No t1 g0 w0 p0@0{1,2,3} a1 v1/0{1,2,3}{2} y- r[] o[] x{} b0" ∷
+    "3 No t1 g0 w0 p0@0{1,2,3} a1 v1/0{1,2,3}{3} y- r[] o[] x{} b0" ∷
     "= 8" ∷
-    "1 RegPrim c1 g0 w0 p1@1{1,2,3} a0 v1/0{1,2,3}{1} y- r[] o[] x{} b0" ∷
-    "= 9" ∷
-    "2 RegPrim c1 g0 w0 p1@1{1,2,3} a0 v1/0{1,2,3}{2} y- r[] o[] x{} b0" ∷
+    "1 ExchangeStates c2 g0 w0 p0@0{1,2,3} a1 v- y- r[] o[] x{} b0" ∷
+    "2 ExchangeStates c2 g0 w0 p0@0{1,2,3} a1 v- y- r[] o[] x{} b0" ∷
+    "3 ExchangeStates c2 g0 w0 p0@0{1,2,3} a1 v- y- r[] o[] x{} b0" ∷
     "= 10" ∷
-    "3 RegPrim c1 g0 w0 p1@1{1,2,3} a0 v1/0{1,2,3}{3} y- r[] o[] x{} b0" ∷
+    "1 Construct c2 g0 w0 p0@0{1,2,3} a2 v2/0{1,2,3}{1} y- r[] o[] x{} b0" ∷
     "= 11" ∷
-    "made 1:1 inc \"x\" -2" ∷
-    "1 RegPrim c1 g0 w0 p1@1{1,2,3} a0 v1/0{1,2,3}{1} y- r[] o[1:1] x{} b0" ∷
-    "= 13" ∷
-    "1 TransPrim t1 g0 w0 p1@1{1,2,3} a0 v1/0{1,2,3}{1} y?[1:1] r[] o[] x{} b0" ∷
+    "2 Construct c2 g0 w0 p0@0{1,2,3} a2 v2/0{1,2,3}{2} y- r[] o[] x{} b0" ∷
+    "= 12" ∷
+    "3 Construct c2 g0 w0 p0@0{1,2,3} a2 v2/0{1,2,3}{3} y- r[] o[] x{} b0" ∷
     "= 14" ∷
-    "2 TransPrim t1 g0 w0 p1@1{1,2,3} a0 v1/0{1,2,3}{2} y- r[] o[] x{} b0" ∷
-    "3 TransPrim t1 g0 w0 p1@1{1,2,3} a0 v1/0{1,2,3}{3} y- r[] o[] x{} b0" ∷
+    "1 RegPrim c2 g0 w0 p1@2{1,2,3} a0 v2/0{1,2,3}{1} y- r[] o[] x{} b0" ∷
     "= 15" ∷
-    "1 ExchangeStates c2 g0 w0 p1@1{1,2,3} a0 v- y![1:1] r[] o[] x{} b0" ∷
-    "2 ExchangeStates c2 g0 w0 p1@1{1,2,3} a0 v- y![] r[] o[] x{} b0" ∷
-    "3 ExchangeStates c2 g0 w0 p1@1{1,2,3} a0 v- y![] r[] o[] x{} b0" ∷
-    "= 17" ∷
-    "1 ExchangeActions c2 g0 w0 p1@1{1,2,3} a0 v- y![1:1] r[] o[] x{} b0" ∷
-    "= 18" ∷
-    "2 ExchangeActions c2 g0 w0 p1@1{1,2,3} a0 v- y![] r[] o[] x{} b0" ∷
-    "= 19" ∷
-    "3 ExchangeActions c2 g0 w0 p1@1{1,2,3} a0 v- y![] r[] o[] x{} b0" ∷
-    "= 21" ∷
-    "1 Construct c2 g0 w0 p1@1{1,2,3} a1 v2/1{1,2,3}{1} y![] r[1:1] o[] x{} b0" ∷
-    "= 22" ∷
-    "2 Construct c2 g0 w0 p1@1{1,2,3} a1 v2/1{1,2,3}{2} y![] r[1:1] o[] x{} b0" ∷
-    "= 23" ∷
-    "3 Construct c2 g0 w0 p1@1{1,2,3} a1 v2/1{1,2,3}{3} y![] r[1:1] o[] x{} b0" ∷
-    "= 25" ∷
-    "order 1 1:1" ∷
-    "1 RegPrim c2 g1 w0 p2@2{1,2,3} a0 v2/1{1,2,3}{1} y- r[] o[] x{} b0" ∷
-    "reply 1:1 done" ∷
-    "= 26" ∷
-    "2 RegPrim c2 g1 w0 p2@2{1,2,3} a0 v2/1{1,2,3}{2} y- r[] o[] x{} b0" ∷
-    "= 27" ∷
-    "3 RegPrim c2 g1 w0 p2@2{1,2,3} a0 v2/1{1,2,3}{3} y- r[] o[] x{} b0" ∷
-    "end 27" ∷
+    "2 RegPrim c2 g0 w0 p1@2{1,2,3} a0 v2/0{1,2,3}{2} y- r[] o[] x{} b0" ∷
+    "= 16" ∷
+    "3 RegPrim c2 g0 w0 p1@2{1,2,3} a0 v2/0{1,2,3}{3} y- r[] o[] x{} b0" ∷
+    "= 29" ∷
+    "made 2:1 leave 1" ∷
+    "2 RegPrim c2 g0 w0 p1@2{1,2,3} a0 v2/0{1,2,3}{2} y- r[] o[2:1] x{} b0" ∷
+    "= 31" ∷
+    "order 1 2:1" ∷
+    "1 RegPrim c2 g1 w0 p1@2{1,2,3} a0 v2/0{1,2,3}{1} y- r[] o[] x{1} b0" ∷
+    "= 32" ∷
+    "2 RegPrim c2 g1 w0 p1@2{1,2,3} a0 v2/0{1,2,3}{2} y- r[] o[] x{1} b0" ∷
+    "reply 2:1 done" ∷
+    "= 33" ∷
+    "3 RegPrim c2 g1 w0 p1@2{1,2,3} a0 v2/0{1,2,3}{3} y- r[] o[] x{1} b0" ∷
+    "= 37" ∷
+    "greens 2 [2:1]" ∷
+    "db 2" ∷
+    "= 44" ∷
+    "made 2:2 put \"ab\" 78 ? get \"ab\"" ∷
+    "2 RegPrim c2 g1 w0 p1@2{1,2,3} a0 v2/0{1,2,3}{2} y- r[] o[2:2] x{1} b0" ∷
+    "= 46" ∷
+    "order 2 2:2" ∷
+    "1 RegPrim c2 g2 w0 p1@2{1,2,3} a0 v2/0{1,2,3}{1} y- r[] o[] x{1} b0" ∷
+    "= 47" ∷
+    "2 RegPrim c2 g2 w0 p1@2{1,2,3} a0 v2/0{1,2,3}{2} y- r[] o[] x{1} b0" ∷
+    "reply 2:2 done ? 78" ∷
+    "= 48" ∷
+    "3 RegPrim c2 g2 w0 p1@2{1,2,3} a0 v2/0{1,2,3}{3} y- r[] o[] x{1} b0" ∷
+    "= 49" ∷
+    "made 3:1 cas \"a\" \"12\" 96" ∷
+    "3 RegPrim c2 g2 w0 p1@2{1,2,3} a0 v2/0{1,2,3}{3} y- r[] o[3:1] x{1} b0" ∷
+    "= 50" ∷
+    "2 TransPrim t2 g2 w0 p1@2{1,2,3} a0 v2/0{1,2,3}{2} y- r[] o[] x{1} b0" ∷
+    "= 51" ∷
+    "1 TransPrim t2 g2 w0 p1@2{1,2,3} a0 v2/0{1,2,3}{1} y- r[] o[] x{1} b0" ∷
+    "3 TransPrim t2 g2 w0 p1@2{1,2,3} a0 v2/0{1,2,3}{3} y- r[] o[3:1] x{1} b0" ∷
+    "= 52" ∷
+    "1 ExchangeStates c3 g2 w0 p1@2{1,2,3} a0 v- y![] r[] o[] x{1} b0" ∷
+    "3 ExchangeStates c3 g2 w0 p1@2{1,2,3} a0 v- y![] r[3:1] o[] x{1} b0" ∷
+    "= 53" ∷
+    "3 ExchangeStates c3 g2 w0 p1@2{1,2,3} a0 v- y![] r[3:1] o[] x{1} b1" ∷
+    "= 55" ∷
+    "1 Left c3 g2 w0 p1@2{1,2,3} a0 v- y![] r[] o[] x{1} b0" ∷
+    "= 56" ∷
+    "made 3:2 join 20" ∷
+    "3 NonPrim c3 g2 w0 p1@2{1,2,3} a0 v- y![] r[3:1] o[3:2] x{1} b0" ∷
+    "= 57" ∷
+    "made 3:3 put \"z\" \"back\\\\slash\"" ∷
+    "3 NonPrim c3 g2 w0 p1@2{1,2,3} a0 v- y![] r[3:1] o[3:2,3:3] x{1} b0" ∷
+    "= 58" ∷
+    "2 TransPrim t2 g2 w0 p1@2{1,2,3} a0 v2/0{1,2,3}{2} y- r[] o[] x{1} b1" ∷
+    "= 62" ∷
+    "3 NonPrim c3 g2 w0 p1@2{1,2,3} a0 v- y![] r[3:1,3:2,3:3] o[] x{1} b0" ∷
+    "= 64" ∷
+    "2 ExchangeStates c4 g2 w0 p1@2{1,2,3} a0 v- y![] r[] o[] x{1} b1" ∷
+    "= 66" ∷
+    "2 NonPrim t4 g2 w0 p1@2{1,2,3} a0 v- y![] r[] o[] x{1} b1" ∷
+    "= 67" ∷
+    "2 ExchangeStates c5 g2 w0 p1@2{1,2,3} a0 v- y![] r[] o[] x{1} b1" ∷
+    "= 69" ∷
+    "made 2:3 put \"a\" 55" ∷
+    "2 NonPrim c5 g2 w0 p1@2{1,2,3} a0 v- y![] r[] o[2:3] x{1} b0" ∷
+    "= 70" ∷
+    "1 Left t3 g2 w0 p1@2{1,2,3} a0 v- y![] r[] o[] x{1} b0" ∷
+    "= 71" ∷
+    "3 NonPrim t3 g2 w0 p1@2{1,2,3} a0 v- y![] r[3:1,3:2,3:3] o[] x{1} b0" ∷
+    "= 72" ∷
+    "3 ExchangeStates c6 g2 w0 p1@2{1,2,3} a0 v- y![] r[3:1,3:2,3:3] o[] x{1} b0" ∷
+    "= 73" ∷
+    "made 2:4 put \"y\" 10; move \"z\" \"x\" 9223372036854775807; need \"x\" absent ? count" ∷
+    "2 NonPrim c5 g2 w0 p1@2{1,2,3} a0 v- y![] r[] o[2:3,2:4] x{1} b0" ∷
+    "= 74" ∷
+    "2 NonPrim t5 g2 w0 p1@2{1,2,3} a0 v- y![] r[] o[2:3,2:4] x{1} b0" ∷
+    "= 75" ∷
+    "3 NonPrim t6 g2 w0 p1@2{1,2,3} a0 v- y![] r[3:1,3:2,3:3] o[] x{1} b0" ∷
+    "= 76" ∷
+    "2 ExchangeStates c7 g2 w0 p1@2{1,2,3} a0 v- y![] r[2:3,2:4] o[] x{1} b0" ∷
+    "3 ExchangeStates c7 g2 w0 p1@2{1,2,3} a0 v- y![] r[3:1,3:2,3:3] o[] x{1} b0" ∷
+    "= 78" ∷
+    "2 ExchangeActions c7 g2 w0 p1@2{1,2,3} a0 v- y![] r[2:3,2:4] o[] x{1} b0" ∷
+    "= 79" ∷
+    "3 ExchangeActions c7 g2 w0 p1@2{1,2,3} a0 v- y![] r[3:1,3:2,3:3] o[] x{1} b0" ∷
+    "= 82" ∷
+    "3 ExchangeActions c7 g2 w0 p1@2{1,2,3} a0 v- y![] r[2:3,2:4,3:1,3:2,3:3] o[] x{1} b0" ∷
+    "= 84" ∷
+    "2 Construct c7 g2 w0 p1@2{1,2,3} a1 v7/1{2,3}{2} y![] r[2:3,2:4,3:1,3:2,3:3] o[] x{1} b0" ∷
+    "= 85" ∷
+    "3 Construct c7 g2 w0 p1@2{1,2,3} a1 v7/1{2,3}{3} y![] r[2:3,2:4,3:1,3:2,3:3] o[] x{1} b0" ∷
+    "= 87" ∷
+    "order 3 2:3" ∷
+    "order 4 2:4" ∷
+    "order 5 3:1" ∷
+    "order 6 3:2" ∷
+    "order 7 3:3" ∷
+    "2 RegPrim c7 g7 w2 p2@7{2,3} a0 v7/1{2,3}{2} y- r[] o[] x{1} b0" ∷
+    "reply 2:3 done" ∷
+    "reply 2:4 aborted 2 ? count 2" ∷
+    "= 88" ∷
+    "3 RegPrim c7 g7 w2 p2@7{2,3} a0 v7/1{2,3}{3} y- r[] o[] x{1} b0" ∷
+    "reply 3:1 done" ∷
+    "reply 3:2 done" ∷
+    "reply 3:3 done" ∷
+    "= 89" ∷
+    "made 2:5 put \"b\" 5" ∷
+    "2 RegPrim c7 g7 w2 p2@7{2,3} a0 v7/1{2,3}{2} y- r[] o[2:5] x{1} b0" ∷
+    "= 91" ∷
+    "order 8 2:5" ∷
+    "2 RegPrim c7 g8 w2 p2@7{2,3} a0 v7/1{2,3}{2} y- r[] o[] x{1} b0" ∷
+    "reply 2:5 done" ∷
+    "= 92" ∷
+    "3 RegPrim c7 g8 w2 p2@7{2,3} a0 v7/1{2,3}{3} y- r[] o[] x{1} b0" ∷
+    "= 94" ∷
+    "3 TransPrim t7 g8 w2 p2@7{2,3} a0 v7/1{2,3}{3} y- r[] o[] x{1} b0" ∷
+    "= 95" ∷
+    "2 TransPrim t7 g8 w2 p2@7{2,3} a0 v7/1{2,3}{2} y- r[] o[] x{1} b0" ∷
+    "= 96" ∷
+    "2 ExchangeStates c8 g8 w2 p2@7{2,3} a0 v- y![] r[] o[] x{1} b0" ∷
+    "= 97" ∷
+    "3 ExchangeStates c9 g8 w2 p2@7{2,3} a0 v- y![] r[] o[] x{1} b0" ∷
+    "= 99" ∷
+    "2 Construct c8 g8 w2 p2@7{2,3} a1 v8/2{2}{2} y![] r[] o[] x{1} b0" ∷
+    "= 100" ∷
+    "3 NonPrim c9 g8 w2 p2@7{2,3} a0 v- y![] r[] o[] x{1} b0" ∷
+    "= 102" ∷
+    "2 RegPrim c8 g8 w2 p3@8{2} a0 v8/2{2}{2} y- r[] o[] x{1} b0" ∷
+    "= 105" ∷
+    "2 Down" ∷
+    "= 109" ∷
+    "made 3:4 move \"x\" \"z\" 7" ∷
+    "3 NonPrim c9 g8 w2 p2@7{2,3} a0 v- y![] r[] o[3:4] x{1} b0" ∷
+    "= 111" ∷
+    "3 NonPrim c9 g8 w2 p2@7{2,3} a0 v- y![] r[3:4] o[] x{1} b0" ∷
+    "end 113" ∷
     [])
 unfolding cases_compute
-yellow_action_not_in_every_list_b = refl
+three_replicas_primary_lost_and_reds_ordered_crash_in_a_device_call_leaver_a = refl

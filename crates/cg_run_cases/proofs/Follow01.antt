@@ -4,6 +4,228 @@ use mathlib.Core.Path.{refl}
 use Rattle.cg_run_cases.specs.Replaying.{put_by, written}
 use Rattle.cg_run_cases.specs.Computing.{cases_compute}
 
+-- Followers beside disks of the older format and recoveries that are stopped.
+follow_beside_old_disks_a :
+    put_by "follow" (
+    "start 1 2" ∷
+    "merge 1 2" ∷
+    "rounds 2" ∷
+    "stop 2 3 -" ∷
+    "split 1" ∷
+    "follower 3 1" ∷
+    "rounds 1" ∷
+    "feed 2 3 5" ∷
+    "request 2 put \"x\" 8" ∷
+    "fstop 3 3 00" ∷
+    "fstop 3 0 01" ∷
+    "downgrade 2" ∷
+    "downgrade 2" ∷
+    "recover 2 13 01" ∷
+    "frecover 3" ∷
+    "follower 3 1" ∷
+    "rounds 1" ∷
+    "follower 7 1" ∷
+    "recover 2" ∷
+    "merge 1 2" ∷
+    "follower 7 1" ∷
+    "end" ∷
+    [])
+    ≡ written (
+    "= 1" ∷
+    "1 NonPrim - g0 w0 p0@0{1,2} a0 v- y- r[] o[] x{} b0" ∷
+    "2 NonPrim - g0 w0 p0@0{1,2} a0 v- y- r[] o[] x{} b0" ∷
+    "= 2" ∷
+    "1 ExchangeStates c1 g0 w0 p0@0{1,2} a0 v- y- r[] o[] x{} b0" ∷
+    "2 ExchangeStates c1 g0 w0 p0@0{1,2} a0 v- y- r[] o[] x{} b0" ∷
+    "= 4" ∷
+    "1 Construct c1 g0 w0 p0@0{1,2} a1 v1/0{1,2}{1} y- r[] o[] x{} b0" ∷
+    "= 5" ∷
+    "2 Construct c1 g0 w0 p0@0{1,2} a1 v1/0{1,2}{2} y- r[] o[] x{} b0" ∷
+    "= 7" ∷
+    "1 RegPrim c1 g0 w0 p1@1{1,2} a0 v1/0{1,2}{1} y- r[] o[] x{} b0" ∷
+    "= 8" ∷
+    "2 RegPrim c1 g0 w0 p1@1{1,2} a0 v1/0{1,2}{2} y- r[] o[] x{} b0" ∷
+    "= 10" ∷
+    "1 TransPrim t1 g0 w0 p1@1{1,2} a0 v1/0{1,2}{1} y- r[] o[] x{} b0" ∷
+    "= 11" ∷
+    "follower 3 0" ∷
+    "= 14" ∷
+    "2 Down" ∷
+    "= 16" ∷
+    "follower 3 down" ∷
+    "= 20" ∷
+    "follower 3 0" ∷
+    "= 23" ∷
+    "follower 7 0" ∷
+    "= 24" ∷
+    "2 NonPrim - g0 w0 p1@1{1,2} a0 v1/0{1,2}{2} y- r[] o[] x{} b0" ∷
+    "= 25" ∷
+    "1 ExchangeStates c2 g0 w0 p1@1{1,2} a0 v- y![] r[] o[] x{} b0" ∷
+    "2 ExchangeStates c2 g0 w0 p1@1{1,2} a0 v1/0{1,2}{2} y- r[] o[] x{} b0" ∷
+    "end 26" ∷
+    [])
+unfolding cases_compute
+follow_beside_old_disks_a = refl
+
+-- Followers beside disks of the older format and recoveries that are stopped.
+follow_beside_old_disks_b :
+    put_by "follow" (
+    "start 1 2 3" ∷
+    "merge 1 2 3" ∷
+    "rounds 2" ∷
+    "stop 3 3 01" ∷
+    "split 1" ∷
+    "rounds 1" ∷
+    "follower 3 1" ∷
+    "request 3 put \"x\" 9" ∷
+    "downgrade 3" ∷
+    "follower 3 2" ∷
+    "downgrade 3" ∷
+    "fstop 3 0 01" ∷
+    "recover 3 12 01" ∷
+    "follower 7 1" ∷
+    "stop 2 0 -" ∷
+    "frecover 3" ∷
+    "stop 1 0 01" ∷
+    "recover 2" ∷
+    "merge 2" ∷
+    "recover 3 17 01" ∷
+    "fweak 3 get \"x\"" ∷
+    "recover 1 17 ff" ∷
+    "fweak 3 get \"x\"" ∷
+    "end" ∷
+    [])
+    ≡ written (
+    "= 1" ∷
+    "1 NonPrim - g0 w0 p0@0{1,2,3} a0 v- y- r[] o[] x{} b0" ∷
+    "2 NonPrim - g0 w0 p0@0{1,2,3} a0 v- y- r[] o[] x{} b0" ∷
+    "3 NonPrim - g0 w0 p0@0{1,2,3} a0 v- y- r[] o[] x{} b0" ∷
+    "= 2" ∷
+    "1 ExchangeStates c1 g0 w0 p0@0{1,2,3} a0 v- y- r[] o[] x{} b0" ∷
+    "2 ExchangeStates c1 g0 w0 p0@0{1,2,3} a0 v- y- r[] o[] x{} b0" ∷
+    "3 ExchangeStates c1 g0 w0 p0@0{1,2,3} a0 v- y- r[] o[] x{} b0" ∷
+    "= 4" ∷
+    "1 Construct c1 g0 w0 p0@0{1,2,3} a1 v1/0{1,2,3}{1} y- r[] o[] x{} b0" ∷
+    "= 5" ∷
+    "2 Construct c1 g0 w0 p0@0{1,2,3} a1 v1/0{1,2,3}{2} y- r[] o[] x{} b0" ∷
+    "= 6" ∷
+    "3 Construct c1 g0 w0 p0@0{1,2,3} a1 v1/0{1,2,3}{3} y- r[] o[] x{} b0" ∷
+    "= 8" ∷
+    "1 RegPrim c1 g0 w0 p1@1{1,2,3} a0 v1/0{1,2,3}{1} y- r[] o[] x{} b0" ∷
+    "= 9" ∷
+    "2 RegPrim c1 g0 w0 p1@1{1,2,3} a0 v1/0{1,2,3}{2} y- r[] o[] x{} b0" ∷
+    "= 10" ∷
+    "3 RegPrim c1 g0 w0 p1@1{1,2,3} a0 v1/0{1,2,3}{3} y- r[] o[] x{} b0" ∷
+    "= 12" ∷
+    "1 TransPrim t1 g0 w0 p1@1{1,2,3} a0 v1/0{1,2,3}{1} y- r[] o[] x{} b0" ∷
+    "= 14" ∷
+    "follower 3 0" ∷
+    "= 15" ∷
+    "3 Down" ∷
+    "= 19" ∷
+    "follower 3 down" ∷
+    "= 21" ∷
+    "follower 7 0" ∷
+    "= 22" ∷
+    "2 Down" ∷
+    "= 23" ∷
+    "follower 3 0" ∷
+    "= 24" ∷
+    "1 Down" ∷
+    "= 25" ∷
+    "2 NonPrim - g0 w0 p1@1{1,2,3} a0 v1/0{1,2,3}{2} y- r[] o[] x{} b0" ∷
+    "= 26" ∷
+    "2 ExchangeStates c2 g0 w0 p1@1{1,2,3} a0 v1/0{1,2,3}{2} y- r[] o[] x{} b0" ∷
+    "= 27" ∷
+    "made 3:1 put \"x\" 9" ∷
+    "3 NonPrim - g0 w0 p1@1{1,2,3} a0 v1/0{1,2,3}{3} y- r[3:1] o[] x{} b0" ∷
+    "= 28" ∷
+    "fweak 3 absent" ∷
+    "= 29" ∷
+    "1 NonPrim - g0 w0 p1@1{1,2,3} a0 v1/0{1,2,3}{1} y- r[] o[] x{} b0" ∷
+    "= 30" ∷
+    "fweak 3 absent" ∷
+    "end 30" ∷
+    [])
+unfolding cases_compute
+follow_beside_old_disks_b = refl
+
+-- Followers beside disks of the older format and recoveries that are stopped.
+follow_beside_old_disks_c :
+    put_by "follow" (
+    "start 1 2" ∷
+    "merge 1 2" ∷
+    "rounds 2" ∷
+    "request 1 put \"x\" 2" ∷
+    "follower 7 2" ∷
+    "request 1 put \"x\" 2" ∷
+    "fstop 7 0 -" ∷
+    "split 1" ∷
+    "request 1 put \"x\" 8" ∷
+    "rounds 1" ∷
+    "follower 7 2" ∷
+    "stop 1 3 -" ∷
+    "feed 1 7 2" ∷
+    "stop 1 0 -" ∷
+    "follower 3 2" ∷
+    "fstop 3 5 01" ∷
+    "downgrade 1" ∷
+    "fstop 3 3 00" ∷
+    "recover 1 9 -" ∷
+    "fweak 7 get \"x\"" ∷
+    "recover 1 12 01" ∷
+    "follower 7 2" ∷
+    "downgrade 1" ∷
+    "stop 2 0 -" ∷
+    "fstop 3 0 00" ∷
+    "end" ∷
+    [])
+    ≡ written (
+    "= 1" ∷
+    "1 NonPrim - g0 w0 p0@0{1,2} a0 v- y- r[] o[] x{} b0" ∷
+    "2 NonPrim - g0 w0 p0@0{1,2} a0 v- y- r[] o[] x{} b0" ∷
+    "= 2" ∷
+    "1 ExchangeStates c1 g0 w0 p0@0{1,2} a0 v- y- r[] o[] x{} b0" ∷
+    "2 ExchangeStates c1 g0 w0 p0@0{1,2} a0 v- y- r[] o[] x{} b0" ∷
+    "= 4" ∷
+    "1 Construct c1 g0 w0 p0@0{1,2} a1 v1/0{1,2}{1} y- r[] o[] x{} b0" ∷
+    "= 5" ∷
+    "2 Construct c1 g0 w0 p0@0{1,2} a1 v1/0{1,2}{2} y- r[] o[] x{} b0" ∷
+    "= 7" ∷
+    "1 RegPrim c1 g0 w0 p1@1{1,2} a0 v1/0{1,2}{1} y- r[] o[] x{} b0" ∷
+    "= 8" ∷
+    "2 RegPrim c1 g0 w0 p1@1{1,2} a0 v1/0{1,2}{2} y- r[] o[] x{} b0" ∷
+    "= 9" ∷
+    "made 1:1 put \"x\" 2" ∷
+    "1 RegPrim c1 g0 w0 p1@1{1,2} a0 v1/0{1,2}{1} y- r[] o[1:1] x{} b0" ∷
+    "= 10" ∷
+    "follower 7 0" ∷
+    "= 11" ∷
+    "made 1:2 put \"x\" 2" ∷
+    "1 RegPrim c1 g0 w0 p1@1{1,2} a0 v1/0{1,2}{1} y- r[] o[1:1,1:2] x{} b0" ∷
+    "= 12" ∷
+    "follower 7 down" ∷
+    "= 13" ∷
+    "1 TransPrim t1 g0 w0 p1@1{1,2} a0 v1/0{1,2}{1} y- r[] o[1:1,1:2] x{} b0" ∷
+    "= 14" ∷
+    "1 TransPrim t1 g0 w0 p1@1{1,2} a0 v1/0{1,2}{1} y- r[] o[1:1,1:2] x{} b1" ∷
+    "= 16" ∷
+    "follower 7 0" ∷
+    "= 19" ∷
+    "1 Down" ∷
+    "= 20" ∷
+    "follower 3 0" ∷
+    "= 25" ∷
+    "fweak 7 absent" ∷
+    "= 29" ∷
+    "2 Down" ∷
+    "= 30" ∷
+    "follower 3 down" ∷
+    "end 30" ∷
+    [])
+unfolding cases_compute
+follow_beside_old_disks_c = refl
+
 -- A follower is made, fed, asked, stopped and recovered; where nothing changes nothing is printed.
 follow_each_word :
     put_by "follow" (
@@ -455,308 +677,3 @@ follow_fed_past_a_discarded_place :
     [])
 unfolding cases_compute
 follow_fed_past_a_discarded_place = refl
-
--- A follower is made from a replica that joined, and fed by it and by the others.
-follow_from_a_joiner :
-    put_by "follow" (
-    "start 1 2 3" ∷
-    "merge 1 2 3" ∷
-    "rounds 2" ∷
-    "request 1 put \"x\" 1" ∷
-    "rounds 1" ∷
-    "join 2 4" ∷
-    "rounds 1" ∷
-    "transfer 2 4 9" ∷
-    "follower 1 4" ∷
-    "fweak 1 get \"x\"" ∷
-    "split 1 2 3" ∷
-    "merge 1 2 3 4" ∷
-    "rounds 3" ∷
-    "request 4 inc \"x\" 5 ? get \"x\"" ∷
-    "rounds 1" ∷
-    "feed 4 1 2" ∷
-    "fweak 1 get \"x\"" ∷
-    "feed 1 1 1" ∷
-    "end" ∷
-    [])
-    ≡ written (
-    "= 1" ∷
-    "1 NonPrim - g0 w0 p0@0{1,2,3} a0 v- y- r[] o[] x{} b0" ∷
-    "2 NonPrim - g0 w0 p0@0{1,2,3} a0 v- y- r[] o[] x{} b0" ∷
-    "3 NonPrim - g0 w0 p0@0{1,2,3} a0 v- y- r[] o[] x{} b0" ∷
-    "= 2" ∷
-    "1 ExchangeStates c1 g0 w0 p0@0{1,2,3} a0 v- y- r[] o[] x{} b0" ∷
-    "2 ExchangeStates c1 g0 w0 p0@0{1,2,3} a0 v- y- r[] o[] x{} b0" ∷
-    "3 ExchangeStates c1 g0 w0 p0@0{1,2,3} a0 v- y- r[] o[] x{} b0" ∷
-    "= 4" ∷
-    "1 Construct c1 g0 w0 p0@0{1,2,3} a1 v1/0{1,2,3}{1} y- r[] o[] x{} b0" ∷
-    "= 5" ∷
-    "2 Construct c1 g0 w0 p0@0{1,2,3} a1 v1/0{1,2,3}{2} y- r[] o[] x{} b0" ∷
-    "= 6" ∷
-    "3 Construct c1 g0 w0 p0@0{1,2,3} a1 v1/0{1,2,3}{3} y- r[] o[] x{} b0" ∷
-    "= 8" ∷
-    "1 RegPrim c1 g0 w0 p1@1{1,2,3} a0 v1/0{1,2,3}{1} y- r[] o[] x{} b0" ∷
-    "= 9" ∷
-    "2 RegPrim c1 g0 w0 p1@1{1,2,3} a0 v1/0{1,2,3}{2} y- r[] o[] x{} b0" ∷
-    "= 10" ∷
-    "3 RegPrim c1 g0 w0 p1@1{1,2,3} a0 v1/0{1,2,3}{3} y- r[] o[] x{} b0" ∷
-    "= 11" ∷
-    "made 1:1 put \"x\" 1" ∷
-    "1 RegPrim c1 g0 w0 p1@1{1,2,3} a0 v1/0{1,2,3}{1} y- r[] o[1:1] x{} b0" ∷
-    "= 13" ∷
-    "order 1 1:1" ∷
-    "1 RegPrim c1 g1 w0 p1@1{1,2,3} a0 v1/0{1,2,3}{1} y- r[] o[] x{} b0" ∷
-    "reply 1:1 done" ∷
-    "= 14" ∷
-    "2 RegPrim c1 g1 w0 p1@1{1,2,3} a0 v1/0{1,2,3}{2} y- r[] o[] x{} b0" ∷
-    "= 15" ∷
-    "3 RegPrim c1 g1 w0 p1@1{1,2,3} a0 v1/0{1,2,3}{3} y- r[] o[] x{} b0" ∷
-    "= 16" ∷
-    "made 2:1 join 4" ∷
-    "2 RegPrim c1 g1 w0 p1@1{1,2,3} a0 v1/0{1,2,3}{2} y- r[] o[2:1] x{} b0" ∷
-    "= 18" ∷
-    "order 2 2:1" ∷
-    "1 RegPrim c1 g2 w0 p1@1{1,2,3} a0 v1/0{1,2,3}{1} y- r[] o[] x{} b0" ∷
-    "= 19" ∷
-    "2 RegPrim c1 g2 w0 p1@1{1,2,3} a0 v1/0{1,2,3}{2} y- r[] o[] x{} b0" ∷
-    "reply 2:1 done" ∷
-    "= 20" ∷
-    "3 RegPrim c1 g2 w0 p1@1{1,2,3} a0 v1/0{1,2,3}{3} y- r[] o[] x{} b0" ∷
-    "= 21" ∷
-    "4 NonPrim - g2 w0 p1@1{1,2,3} a0 v- y- r[] o[] x{} b0" ∷
-    "pieces 4 5/5" ∷
-    "= 22" ∷
-    "follower 1 2" ∷
-    "= 23" ∷
-    "fweak 1 1" ∷
-    "= 24" ∷
-    "1 TransPrim t1 g2 w0 p1@1{1,2,3} a0 v1/0{1,2,3}{1} y- r[] o[] x{} b0" ∷
-    "2 TransPrim t1 g2 w0 p1@1{1,2,3} a0 v1/0{1,2,3}{2} y- r[] o[] x{} b0" ∷
-    "3 TransPrim t1 g2 w0 p1@1{1,2,3} a0 v1/0{1,2,3}{3} y- r[] o[] x{} b0" ∷
-    "= 25" ∷
-    "1 ExchangeStates c2 g2 w0 p1@1{1,2,3} a0 v- y![] r[] o[] x{} b0" ∷
-    "2 ExchangeStates c2 g2 w0 p1@1{1,2,3} a0 v- y![] r[] o[] x{} b0" ∷
-    "3 ExchangeStates c2 g2 w0 p1@1{1,2,3} a0 v- y![] r[] o[] x{} b0" ∷
-    "4 ExchangeStates c2 g2 w0 p1@1{1,2,3} a0 v- y- r[] o[] x{} b0" ∷
-    "= 27" ∷
-    "1 Construct c2 g2 w0 p1@1{1,2,3} a1 v2/1{1,2,3,4}{1} y![] r[] o[] x{} b0" ∷
-    "= 28" ∷
-    "2 Construct c2 g2 w0 p1@1{1,2,3} a1 v2/1{1,2,3,4}{2} y![] r[] o[] x{} b0" ∷
-    "= 29" ∷
-    "3 Construct c2 g2 w0 p1@1{1,2,3} a1 v2/1{1,2,3,4}{3} y![] r[] o[] x{} b0" ∷
-    "= 30" ∷
-    "4 Construct c2 g2 w0 p1@1{1,2,3} a1 v2/1{1,2,3,4}{4} y![] r[] o[] x{} b0" ∷
-    "= 32" ∷
-    "1 RegPrim c2 g2 w0 p2@2{1,2,3,4} a0 v2/1{1,2,3,4}{1} y- r[] o[] x{} b0" ∷
-    "= 33" ∷
-    "2 RegPrim c2 g2 w0 p2@2{1,2,3,4} a0 v2/1{1,2,3,4}{2} y- r[] o[] x{} b0" ∷
-    "= 34" ∷
-    "3 RegPrim c2 g2 w0 p2@2{1,2,3,4} a0 v2/1{1,2,3,4}{3} y- r[] o[] x{} b0" ∷
-    "= 35" ∷
-    "4 RegPrim c2 g2 w0 p2@2{1,2,3,4} a0 v2/1{1,2,3,4}{4} y- r[] o[] x{} b0" ∷
-    "= 37" ∷
-    "made 4:1 inc \"x\" 5 ? get \"x\"" ∷
-    "4 RegPrim c2 g2 w0 p2@2{1,2,3,4} a0 v2/1{1,2,3,4}{4} y- r[] o[4:1] x{} b0" ∷
-    "= 39" ∷
-    "order 3 4:1" ∷
-    "1 RegPrim c2 g3 w0 p2@2{1,2,3,4} a0 v2/1{1,2,3,4}{1} y- r[] o[] x{} b0" ∷
-    "= 40" ∷
-    "2 RegPrim c2 g3 w0 p2@2{1,2,3,4} a0 v2/1{1,2,3,4}{2} y- r[] o[] x{} b0" ∷
-    "= 41" ∷
-    "3 RegPrim c2 g3 w0 p2@2{1,2,3,4} a0 v2/1{1,2,3,4}{3} y- r[] o[] x{} b0" ∷
-    "= 42" ∷
-    "4 RegPrim c2 g3 w0 p2@2{1,2,3,4} a0 v2/1{1,2,3,4}{4} y- r[] o[] x{} b0" ∷
-    "reply 4:1 done ? 6" ∷
-    "= 43" ∷
-    "follower 1 3" ∷
-    "= 44" ∷
-    "fweak 1 6" ∷
-    "end 45" ∷
-    [])
-unfolding cases_compute
-follow_from_a_joiner = refl
-
--- Joins, leaves, aborted updates and queries alone are places like all others.
-follow_joins_and_leaves_are_fed :
-    put_by "follow" (
-    "start 1 2 3" ∷
-    "merge 1 2 3" ∷
-    "rounds 2" ∷
-    "follower 1 1" ∷
-    "join 1 9*3" ∷
-    "leave 2 3" ∷
-    "request 1 need \"x\" 1; put \"y\" 1" ∷
-    "request 2 ? count" ∷
-    "request 1 inc \"z\" 9223372036854775807; inc \"z\" 1" ∷
-    "request 2 put \"w\" 1" ∷
-    "rounds 1" ∷
-    "feed 1 1 1" ∷
-    "feed 1 1 1" ∷
-    "feed 2 1 2" ∷
-    "feed 2 1 9" ∷
-    "fweak 1 count" ∷
-    "fweak 1 keys \"\"" ∷
-    "end" ∷
-    [])
-    ≡ written (
-    "= 1" ∷
-    "1 NonPrim - g0 w0 p0@0{1,2,3} a0 v- y- r[] o[] x{} b0" ∷
-    "2 NonPrim - g0 w0 p0@0{1,2,3} a0 v- y- r[] o[] x{} b0" ∷
-    "3 NonPrim - g0 w0 p0@0{1,2,3} a0 v- y- r[] o[] x{} b0" ∷
-    "= 2" ∷
-    "1 ExchangeStates c1 g0 w0 p0@0{1,2,3} a0 v- y- r[] o[] x{} b0" ∷
-    "2 ExchangeStates c1 g0 w0 p0@0{1,2,3} a0 v- y- r[] o[] x{} b0" ∷
-    "3 ExchangeStates c1 g0 w0 p0@0{1,2,3} a0 v- y- r[] o[] x{} b0" ∷
-    "= 4" ∷
-    "1 Construct c1 g0 w0 p0@0{1,2,3} a1 v1/0{1,2,3}{1} y- r[] o[] x{} b0" ∷
-    "= 5" ∷
-    "2 Construct c1 g0 w0 p0@0{1,2,3} a1 v1/0{1,2,3}{2} y- r[] o[] x{} b0" ∷
-    "= 6" ∷
-    "3 Construct c1 g0 w0 p0@0{1,2,3} a1 v1/0{1,2,3}{3} y- r[] o[] x{} b0" ∷
-    "= 8" ∷
-    "1 RegPrim c1 g0 w0 p1@1{1,2,3} a0 v1/0{1,2,3}{1} y- r[] o[] x{} b0" ∷
-    "= 9" ∷
-    "2 RegPrim c1 g0 w0 p1@1{1,2,3} a0 v1/0{1,2,3}{2} y- r[] o[] x{} b0" ∷
-    "= 10" ∷
-    "3 RegPrim c1 g0 w0 p1@1{1,2,3} a0 v1/0{1,2,3}{3} y- r[] o[] x{} b0" ∷
-    "= 11" ∷
-    "follower 1 0" ∷
-    "= 12" ∷
-    "made 1:1 join 9*3" ∷
-    "1 RegPrim c1 g0 w0 p1@1{1,2,3} a0 v1/0{1,2,3}{1} y- r[] o[1:1] x{} b0" ∷
-    "= 13" ∷
-    "made 2:1 leave 3" ∷
-    "2 RegPrim c1 g0 w0 p1@1{1,2,3} a0 v1/0{1,2,3}{2} y- r[] o[2:1] x{} b0" ∷
-    "= 14" ∷
-    "made 1:2 need \"x\" 1; put \"y\" 1" ∷
-    "1 RegPrim c1 g0 w0 p1@1{1,2,3} a0 v1/0{1,2,3}{1} y- r[] o[1:1,1:2] x{} b0" ∷
-    "= 15" ∷
-    "made 2:2 ? count" ∷
-    "2 RegPrim c1 g0 w0 p1@1{1,2,3} a0 v1/0{1,2,3}{2} y- r[] o[2:1,2:2] x{} b0" ∷
-    "= 16" ∷
-    "made 1:3 inc \"z\" 9223372036854775807; inc \"z\" 1" ∷
-    "1 RegPrim c1 g0 w0 p1@1{1,2,3} a0 v1/0{1,2,3}{1} y- r[] o[1:1,1:2,1:3] x{} b0" ∷
-    "= 17" ∷
-    "made 2:3 put \"w\" 1" ∷
-    "2 RegPrim c1 g0 w0 p1@1{1,2,3} a0 v1/0{1,2,3}{2} y- r[] o[2:1,2:2,2:3] x{} b0" ∷
-    "= 19" ∷
-    "order 1 1:1" ∷
-    "order 2 1:2" ∷
-    "order 3 1:3" ∷
-    "order 4 2:1" ∷
-    "order 5 2:2" ∷
-    "order 6 2:3" ∷
-    "1 RegPrim c1 g6 w0 p1@1{1,2,3} a0 v1/0{1,2,3}{1} y- r[] o[] x{3} b0" ∷
-    "reply 1:1 done" ∷
-    "reply 1:2 aborted 1" ∷
-    "reply 1:3 range 2" ∷
-    "= 20" ∷
-    "2 RegPrim c1 g6 w0 p1@1{1,2,3} a0 v1/0{1,2,3}{2} y- r[] o[] x{3} b0" ∷
-    "reply 2:1 done" ∷
-    "reply 2:2 done ? count 0" ∷
-    "reply 2:3 done" ∷
-    "= 21" ∷
-    "3 RegPrim c1 g6 w0 p1@1{1,2,3} a0 v1/0{1,2,3}{3} y- r[] o[] x{3} b0" ∷
-    "= 22" ∷
-    "follower 1 1" ∷
-    "= 23" ∷
-    "follower 1 2" ∷
-    "= 24" ∷
-    "follower 1 4" ∷
-    "= 25" ∷
-    "follower 1 6" ∷
-    "= 26" ∷
-    "fweak 1 count 1" ∷
-    "= 27" ∷
-    "fweak 1 keys \"w\"" ∷
-    "end 27" ∷
-    [])
-unfolding cases_compute
-follow_joins_and_leaves_are_fed = refl
-
--- A follower is made anew at the same cursor, which prints nothing, further on, and while it is down; the new disk has no stop armed.
-follow_made_anew :
-    put_by "follow" (
-    "start 1 2 3" ∷
-    "merge 1 2 3" ∷
-    "rounds 2" ∷
-    "follower 9 1" ∷
-    "follower 9 2" ∷
-    "fstop 9 1 -" ∷
-    "follower 9 2" ∷
-    "request 1 put \"x\" 1" ∷
-    "rounds 1" ∷
-    "feed 3 9 1" ∷
-    "fstop 9 0 -" ∷
-    "follower 9 3" ∷
-    "request 1 put \"x\" 2" ∷
-    "rounds 1" ∷
-    "follower 9 1" ∷
-    "fweak 9 get \"x\"" ∷
-    "fstop 9 0 07" ∷
-    "follower 9 2" ∷
-    "frecover 9" ∷
-    [])
-    ≡ written (
-    "= 1" ∷
-    "1 NonPrim - g0 w0 p0@0{1,2,3} a0 v- y- r[] o[] x{} b0" ∷
-    "2 NonPrim - g0 w0 p0@0{1,2,3} a0 v- y- r[] o[] x{} b0" ∷
-    "3 NonPrim - g0 w0 p0@0{1,2,3} a0 v- y- r[] o[] x{} b0" ∷
-    "= 2" ∷
-    "1 ExchangeStates c1 g0 w0 p0@0{1,2,3} a0 v- y- r[] o[] x{} b0" ∷
-    "2 ExchangeStates c1 g0 w0 p0@0{1,2,3} a0 v- y- r[] o[] x{} b0" ∷
-    "3 ExchangeStates c1 g0 w0 p0@0{1,2,3} a0 v- y- r[] o[] x{} b0" ∷
-    "= 4" ∷
-    "1 Construct c1 g0 w0 p0@0{1,2,3} a1 v1/0{1,2,3}{1} y- r[] o[] x{} b0" ∷
-    "= 5" ∷
-    "2 Construct c1 g0 w0 p0@0{1,2,3} a1 v1/0{1,2,3}{2} y- r[] o[] x{} b0" ∷
-    "= 6" ∷
-    "3 Construct c1 g0 w0 p0@0{1,2,3} a1 v1/0{1,2,3}{3} y- r[] o[] x{} b0" ∷
-    "= 8" ∷
-    "1 RegPrim c1 g0 w0 p1@1{1,2,3} a0 v1/0{1,2,3}{1} y- r[] o[] x{} b0" ∷
-    "= 9" ∷
-    "2 RegPrim c1 g0 w0 p1@1{1,2,3} a0 v1/0{1,2,3}{2} y- r[] o[] x{} b0" ∷
-    "= 10" ∷
-    "3 RegPrim c1 g0 w0 p1@1{1,2,3} a0 v1/0{1,2,3}{3} y- r[] o[] x{} b0" ∷
-    "= 11" ∷
-    "follower 9 0" ∷
-    "= 15" ∷
-    "made 1:1 put \"x\" 1" ∷
-    "1 RegPrim c1 g0 w0 p1@1{1,2,3} a0 v1/0{1,2,3}{1} y- r[] o[1:1] x{} b0" ∷
-    "= 17" ∷
-    "order 1 1:1" ∷
-    "1 RegPrim c1 g1 w0 p1@1{1,2,3} a0 v1/0{1,2,3}{1} y- r[] o[] x{} b0" ∷
-    "reply 1:1 done" ∷
-    "= 18" ∷
-    "2 RegPrim c1 g1 w0 p1@1{1,2,3} a0 v1/0{1,2,3}{2} y- r[] o[] x{} b0" ∷
-    "= 19" ∷
-    "3 RegPrim c1 g1 w0 p1@1{1,2,3} a0 v1/0{1,2,3}{3} y- r[] o[] x{} b0" ∷
-    "= 20" ∷
-    "follower 9 1" ∷
-    "= 21" ∷
-    "follower 9 down" ∷
-    "= 22" ∷
-    "follower 9 1" ∷
-    "= 23" ∷
-    "made 1:2 put \"x\" 2" ∷
-    "1 RegPrim c1 g1 w0 p1@1{1,2,3} a0 v1/0{1,2,3}{1} y- r[] o[1:2] x{} b0" ∷
-    "= 25" ∷
-    "order 2 1:2" ∷
-    "1 RegPrim c1 g2 w0 p1@1{1,2,3} a0 v1/0{1,2,3}{1} y- r[] o[] x{} b0" ∷
-    "reply 1:2 done" ∷
-    "= 26" ∷
-    "2 RegPrim c1 g2 w0 p1@1{1,2,3} a0 v1/0{1,2,3}{2} y- r[] o[] x{} b0" ∷
-    "= 27" ∷
-    "3 RegPrim c1 g2 w0 p1@1{1,2,3} a0 v1/0{1,2,3}{3} y- r[] o[] x{} b0" ∷
-    "= 28" ∷
-    "follower 9 2" ∷
-    "= 29" ∷
-    "fweak 9 2" ∷
-    "= 30" ∷
-    "follower 9 down" ∷
-    "= 31" ∷
-    "follower 9 2" ∷
-    "refused 19 22 9" ∷
-    [])
-unfolding cases_compute
-follow_made_anew = refl

@@ -4,6 +4,447 @@ use mathlib.Core.Path.{refl}
 use Rattle.cg_run_cases.specs.Replaying.{put_by, written}
 use Rattle.cg_run_cases.specs.Computing.{cases_compute}
 
+-- Followers are struck in each of the four calls of a feed, with its first byte one: the gate is open from the third call on; a stop at the fifth call waits.
+follow_struck_at_each_call_open :
+    put_by "follow" (
+    "start 1 2 3" ∷
+    "merge 1 2 3" ∷
+    "rounds 2" ∷
+    "request 1 put \"x\" 1" ∷
+    "request 2 inc \"x\" 4" ∷
+    "rounds 1" ∷
+    "follower 1 1" ∷
+    "follower 2 1" ∷
+    "follower 3 1" ∷
+    "follower 4 1" ∷
+    "follower 5 1" ∷
+    "request 1 inc \"x\" 10" ∷
+    "request 3 put \"y\" \"u\"" ∷
+    "rounds 1" ∷
+    "fstop 1 1 01" ∷
+    "feed 2 1 2" ∷
+    "fstop 2 2 01" ∷
+    "feed 2 2 2" ∷
+    "fstop 3 3 01" ∷
+    "feed 2 3 2" ∷
+    "fstop 4 4 01" ∷
+    "feed 2 4 2" ∷
+    "fstop 5 5 01" ∷
+    "feed 2 5 2" ∷
+    "frecover 1" ∷
+    "fweak 1 get \"x\"" ∷
+    "fweak 1 count" ∷
+    "frecover 2" ∷
+    "fweak 2 get \"x\"" ∷
+    "fweak 2 count" ∷
+    "frecover 3" ∷
+    "fweak 3 get \"x\"" ∷
+    "fweak 3 count" ∷
+    "frecover 4" ∷
+    "fweak 4 get \"x\"" ∷
+    "fweak 4 count" ∷
+    "feed 3 1 9" ∷
+    "feed 3 2 9" ∷
+    "feed 3 3 9" ∷
+    "feed 3 4 9" ∷
+    "fweak 1 get \"x\"" ∷
+    "fweak 5 get \"y\"" ∷
+    "end" ∷
+    [])
+    ≡ written (
+    "= 1" ∷
+    "1 NonPrim - g0 w0 p0@0{1,2,3} a0 v- y- r[] o[] x{} b0" ∷
+    "2 NonPrim - g0 w0 p0@0{1,2,3} a0 v- y- r[] o[] x{} b0" ∷
+    "3 NonPrim - g0 w0 p0@0{1,2,3} a0 v- y- r[] o[] x{} b0" ∷
+    "= 2" ∷
+    "1 ExchangeStates c1 g0 w0 p0@0{1,2,3} a0 v- y- r[] o[] x{} b0" ∷
+    "2 ExchangeStates c1 g0 w0 p0@0{1,2,3} a0 v- y- r[] o[] x{} b0" ∷
+    "3 ExchangeStates c1 g0 w0 p0@0{1,2,3} a0 v- y- r[] o[] x{} b0" ∷
+    "= 4" ∷
+    "1 Construct c1 g0 w0 p0@0{1,2,3} a1 v1/0{1,2,3}{1} y- r[] o[] x{} b0" ∷
+    "= 5" ∷
+    "2 Construct c1 g0 w0 p0@0{1,2,3} a1 v1/0{1,2,3}{2} y- r[] o[] x{} b0" ∷
+    "= 6" ∷
+    "3 Construct c1 g0 w0 p0@0{1,2,3} a1 v1/0{1,2,3}{3} y- r[] o[] x{} b0" ∷
+    "= 8" ∷
+    "1 RegPrim c1 g0 w0 p1@1{1,2,3} a0 v1/0{1,2,3}{1} y- r[] o[] x{} b0" ∷
+    "= 9" ∷
+    "2 RegPrim c1 g0 w0 p1@1{1,2,3} a0 v1/0{1,2,3}{2} y- r[] o[] x{} b0" ∷
+    "= 10" ∷
+    "3 RegPrim c1 g0 w0 p1@1{1,2,3} a0 v1/0{1,2,3}{3} y- r[] o[] x{} b0" ∷
+    "= 11" ∷
+    "made 1:1 put \"x\" 1" ∷
+    "1 RegPrim c1 g0 w0 p1@1{1,2,3} a0 v1/0{1,2,3}{1} y- r[] o[1:1] x{} b0" ∷
+    "= 12" ∷
+    "made 2:1 inc \"x\" 4" ∷
+    "2 RegPrim c1 g0 w0 p1@1{1,2,3} a0 v1/0{1,2,3}{2} y- r[] o[2:1] x{} b0" ∷
+    "= 14" ∷
+    "order 1 1:1" ∷
+    "order 2 2:1" ∷
+    "1 RegPrim c1 g2 w0 p1@1{1,2,3} a0 v1/0{1,2,3}{1} y- r[] o[] x{} b0" ∷
+    "reply 1:1 done" ∷
+    "= 15" ∷
+    "2 RegPrim c1 g2 w0 p1@1{1,2,3} a0 v1/0{1,2,3}{2} y- r[] o[] x{} b0" ∷
+    "reply 2:1 done" ∷
+    "= 16" ∷
+    "3 RegPrim c1 g2 w0 p1@1{1,2,3} a0 v1/0{1,2,3}{3} y- r[] o[] x{} b0" ∷
+    "= 17" ∷
+    "follower 1 2" ∷
+    "= 18" ∷
+    "follower 2 2" ∷
+    "= 19" ∷
+    "follower 3 2" ∷
+    "= 20" ∷
+    "follower 4 2" ∷
+    "= 21" ∷
+    "follower 5 2" ∷
+    "= 22" ∷
+    "made 1:2 inc \"x\" 10" ∷
+    "1 RegPrim c1 g2 w0 p1@1{1,2,3} a0 v1/0{1,2,3}{1} y- r[] o[1:2] x{} b0" ∷
+    "= 23" ∷
+    "made 3:1 put \"y\" \"u\"" ∷
+    "3 RegPrim c1 g2 w0 p1@1{1,2,3} a0 v1/0{1,2,3}{3} y- r[] o[3:1] x{} b0" ∷
+    "= 25" ∷
+    "order 3 1:2" ∷
+    "order 4 3:1" ∷
+    "1 RegPrim c1 g4 w0 p1@1{1,2,3} a0 v1/0{1,2,3}{1} y- r[] o[] x{} b0" ∷
+    "reply 1:2 done" ∷
+    "= 26" ∷
+    "2 RegPrim c1 g4 w0 p1@1{1,2,3} a0 v1/0{1,2,3}{2} y- r[] o[] x{} b0" ∷
+    "= 27" ∷
+    "3 RegPrim c1 g4 w0 p1@1{1,2,3} a0 v1/0{1,2,3}{3} y- r[] o[] x{} b0" ∷
+    "reply 3:1 done" ∷
+    "= 29" ∷
+    "follower 1 down" ∷
+    "= 31" ∷
+    "follower 2 down" ∷
+    "= 33" ∷
+    "follower 3 down" ∷
+    "= 35" ∷
+    "follower 4 down" ∷
+    "= 37" ∷
+    "follower 5 4" ∷
+    "= 38" ∷
+    "follower 1 2" ∷
+    "= 39" ∷
+    "fweak 1 5" ∷
+    "= 40" ∷
+    "fweak 1 count 1" ∷
+    "= 41" ∷
+    "follower 2 2" ∷
+    "= 42" ∷
+    "fweak 2 5" ∷
+    "= 43" ∷
+    "fweak 2 count 1" ∷
+    "= 44" ∷
+    "follower 3 4" ∷
+    "= 45" ∷
+    "fweak 3 15" ∷
+    "= 46" ∷
+    "fweak 3 count 2" ∷
+    "= 47" ∷
+    "follower 4 4" ∷
+    "= 48" ∷
+    "fweak 4 15" ∷
+    "= 49" ∷
+    "fweak 4 count 2" ∷
+    "= 50" ∷
+    "follower 1 4" ∷
+    "= 51" ∷
+    "follower 2 4" ∷
+    "= 54" ∷
+    "fweak 1 15" ∷
+    "= 55" ∷
+    "fweak 5 \"u\"" ∷
+    "end 55" ∷
+    [])
+unfolding cases_compute
+follow_struck_at_each_call_open = refl
+
+-- Followers are struck in each of the four calls of a feed, with a zero and a one; a stop at the fifth call waits.
+follow_struck_at_each_call_two :
+    put_by "follow" (
+    "start 1 2 3" ∷
+    "merge 1 2 3" ∷
+    "rounds 2" ∷
+    "request 1 put \"x\" 1" ∷
+    "request 2 inc \"x\" 4" ∷
+    "rounds 1" ∷
+    "follower 1 1" ∷
+    "follower 2 1" ∷
+    "follower 3 1" ∷
+    "follower 4 1" ∷
+    "follower 5 1" ∷
+    "request 1 inc \"x\" 10" ∷
+    "request 3 put \"y\" \"u\"" ∷
+    "rounds 1" ∷
+    "fstop 1 1 0001" ∷
+    "feed 2 1 2" ∷
+    "fstop 2 2 0001" ∷
+    "feed 2 2 2" ∷
+    "fstop 3 3 0001" ∷
+    "feed 2 3 2" ∷
+    "fstop 4 4 0001" ∷
+    "feed 2 4 2" ∷
+    "fstop 5 5 0001" ∷
+    "feed 2 5 2" ∷
+    "frecover 1" ∷
+    "fweak 1 get \"x\"" ∷
+    "fweak 1 count" ∷
+    "frecover 2" ∷
+    "fweak 2 get \"x\"" ∷
+    "fweak 2 count" ∷
+    "frecover 3" ∷
+    "fweak 3 get \"x\"" ∷
+    "fweak 3 count" ∷
+    "frecover 4" ∷
+    "fweak 4 get \"x\"" ∷
+    "fweak 4 count" ∷
+    "feed 3 1 9" ∷
+    "feed 3 2 9" ∷
+    "feed 3 3 9" ∷
+    "feed 3 4 9" ∷
+    "fweak 1 get \"x\"" ∷
+    "fweak 5 get \"y\"" ∷
+    "end" ∷
+    [])
+    ≡ written (
+    "= 1" ∷
+    "1 NonPrim - g0 w0 p0@0{1,2,3} a0 v- y- r[] o[] x{} b0" ∷
+    "2 NonPrim - g0 w0 p0@0{1,2,3} a0 v- y- r[] o[] x{} b0" ∷
+    "3 NonPrim - g0 w0 p0@0{1,2,3} a0 v- y- r[] o[] x{} b0" ∷
+    "= 2" ∷
+    "1 ExchangeStates c1 g0 w0 p0@0{1,2,3} a0 v- y- r[] o[] x{} b0" ∷
+    "2 ExchangeStates c1 g0 w0 p0@0{1,2,3} a0 v- y- r[] o[] x{} b0" ∷
+    "3 ExchangeStates c1 g0 w0 p0@0{1,2,3} a0 v- y- r[] o[] x{} b0" ∷
+    "= 4" ∷
+    "1 Construct c1 g0 w0 p0@0{1,2,3} a1 v1/0{1,2,3}{1} y- r[] o[] x{} b0" ∷
+    "= 5" ∷
+    "2 Construct c1 g0 w0 p0@0{1,2,3} a1 v1/0{1,2,3}{2} y- r[] o[] x{} b0" ∷
+    "= 6" ∷
+    "3 Construct c1 g0 w0 p0@0{1,2,3} a1 v1/0{1,2,3}{3} y- r[] o[] x{} b0" ∷
+    "= 8" ∷
+    "1 RegPrim c1 g0 w0 p1@1{1,2,3} a0 v1/0{1,2,3}{1} y- r[] o[] x{} b0" ∷
+    "= 9" ∷
+    "2 RegPrim c1 g0 w0 p1@1{1,2,3} a0 v1/0{1,2,3}{2} y- r[] o[] x{} b0" ∷
+    "= 10" ∷
+    "3 RegPrim c1 g0 w0 p1@1{1,2,3} a0 v1/0{1,2,3}{3} y- r[] o[] x{} b0" ∷
+    "= 11" ∷
+    "made 1:1 put \"x\" 1" ∷
+    "1 RegPrim c1 g0 w0 p1@1{1,2,3} a0 v1/0{1,2,3}{1} y- r[] o[1:1] x{} b0" ∷
+    "= 12" ∷
+    "made 2:1 inc \"x\" 4" ∷
+    "2 RegPrim c1 g0 w0 p1@1{1,2,3} a0 v1/0{1,2,3}{2} y- r[] o[2:1] x{} b0" ∷
+    "= 14" ∷
+    "order 1 1:1" ∷
+    "order 2 2:1" ∷
+    "1 RegPrim c1 g2 w0 p1@1{1,2,3} a0 v1/0{1,2,3}{1} y- r[] o[] x{} b0" ∷
+    "reply 1:1 done" ∷
+    "= 15" ∷
+    "2 RegPrim c1 g2 w0 p1@1{1,2,3} a0 v1/0{1,2,3}{2} y- r[] o[] x{} b0" ∷
+    "reply 2:1 done" ∷
+    "= 16" ∷
+    "3 RegPrim c1 g2 w0 p1@1{1,2,3} a0 v1/0{1,2,3}{3} y- r[] o[] x{} b0" ∷
+    "= 17" ∷
+    "follower 1 2" ∷
+    "= 18" ∷
+    "follower 2 2" ∷
+    "= 19" ∷
+    "follower 3 2" ∷
+    "= 20" ∷
+    "follower 4 2" ∷
+    "= 21" ∷
+    "follower 5 2" ∷
+    "= 22" ∷
+    "made 1:2 inc \"x\" 10" ∷
+    "1 RegPrim c1 g2 w0 p1@1{1,2,3} a0 v1/0{1,2,3}{1} y- r[] o[1:2] x{} b0" ∷
+    "= 23" ∷
+    "made 3:1 put \"y\" \"u\"" ∷
+    "3 RegPrim c1 g2 w0 p1@1{1,2,3} a0 v1/0{1,2,3}{3} y- r[] o[3:1] x{} b0" ∷
+    "= 25" ∷
+    "order 3 1:2" ∷
+    "order 4 3:1" ∷
+    "1 RegPrim c1 g4 w0 p1@1{1,2,3} a0 v1/0{1,2,3}{1} y- r[] o[] x{} b0" ∷
+    "reply 1:2 done" ∷
+    "= 26" ∷
+    "2 RegPrim c1 g4 w0 p1@1{1,2,3} a0 v1/0{1,2,3}{2} y- r[] o[] x{} b0" ∷
+    "= 27" ∷
+    "3 RegPrim c1 g4 w0 p1@1{1,2,3} a0 v1/0{1,2,3}{3} y- r[] o[] x{} b0" ∷
+    "reply 3:1 done" ∷
+    "= 29" ∷
+    "follower 1 down" ∷
+    "= 31" ∷
+    "follower 2 down" ∷
+    "= 33" ∷
+    "follower 3 down" ∷
+    "= 35" ∷
+    "follower 4 down" ∷
+    "= 37" ∷
+    "follower 5 4" ∷
+    "= 38" ∷
+    "follower 1 2" ∷
+    "= 39" ∷
+    "fweak 1 5" ∷
+    "= 40" ∷
+    "fweak 1 count 1" ∷
+    "= 41" ∷
+    "follower 2 2" ∷
+    "= 42" ∷
+    "fweak 2 5" ∷
+    "= 43" ∷
+    "fweak 2 count 1" ∷
+    "= 44" ∷
+    "follower 3 2" ∷
+    "= 45" ∷
+    "fweak 3 5" ∷
+    "= 46" ∷
+    "fweak 3 count 1" ∷
+    "= 47" ∷
+    "follower 4 2" ∷
+    "= 48" ∷
+    "fweak 4 5" ∷
+    "= 49" ∷
+    "fweak 4 count 1" ∷
+    "= 50" ∷
+    "follower 1 4" ∷
+    "= 51" ∷
+    "follower 2 4" ∷
+    "= 52" ∷
+    "follower 3 4" ∷
+    "= 53" ∷
+    "follower 4 4" ∷
+    "= 54" ∷
+    "fweak 1 15" ∷
+    "= 55" ∷
+    "fweak 5 \"u\"" ∷
+    "end 55" ∷
+    [])
+unfolding cases_compute
+follow_struck_at_each_call_two = refl
+
+-- A line of followers after the end is misplaced.
+follow_syntax_after_the_end :
+    put_by "follow" (
+    "start 1" ∷
+    "merge 1" ∷
+    "rounds 2" ∷
+    "end" ∷
+    "feed 1 1 1" ∷
+    [])
+    ≡ written (
+    "= 1" ∷
+    "1 NonPrim - g0 w0 p0@0{1} a0 v- y- r[] o[] x{} b0" ∷
+    "= 2" ∷
+    "1 ExchangeStates c1 g0 w0 p0@0{1} a0 v- y- r[] o[] x{} b0" ∷
+    "= 4" ∷
+    "1 Construct c1 g0 w0 p0@0{1} a1 v1/0{1}{1} y- r[] o[] x{} b0" ∷
+    "= 6" ∷
+    "1 RegPrim c1 g0 w0 p1@1{1} a0 v1/0{1}{1} y- r[] o[] x{} b0" ∷
+    "syntax 5 9" ∷
+    [])
+unfolding cases_compute
+follow_syntax_after_the_end = refl
+
+-- A line of followers before the start is misplaced.
+follow_syntax_before_the_start :
+    put_by "follow" (
+    "follower 1 1" ∷
+    "start 1" ∷
+    [])
+    ≡ written (
+    "syntax 1 9" ∷
+    [])
+unfolding cases_compute
+follow_syntax_before_the_start = refl
+
+-- A feed takes one place or more.
+follow_syntax_feed_of_none :
+    put_by "follow" (
+    "start 1" ∷
+    "merge 1" ∷
+    "rounds 2" ∷
+    "feed 1 7 0" ∷
+    [])
+    ≡ written (
+    "= 1" ∷
+    "1 NonPrim - g0 w0 p0@0{1} a0 v- y- r[] o[] x{} b0" ∷
+    "= 2" ∷
+    "1 ExchangeStates c1 g0 w0 p0@0{1} a0 v- y- r[] o[] x{} b0" ∷
+    "= 4" ∷
+    "1 Construct c1 g0 w0 p0@0{1} a1 v1/0{1}{1} y- r[] o[] x{} b0" ∷
+    "= 6" ∷
+    "1 RegPrim c1 g0 w0 p1@1{1} a0 v1/0{1}{1} y- r[] o[] x{} b0" ∷
+    "syntax 4 5" ∷
+    [])
+unfolding cases_compute
+follow_syntax_feed_of_none = refl
+
+-- A feed takes at most a million places.
+follow_syntax_feed_past_its_range :
+    put_by "follow" (
+    "start 1" ∷
+    "merge 1" ∷
+    "rounds 2" ∷
+    "feed 1 7 1000001" ∷
+    [])
+    ≡ written (
+    "= 1" ∷
+    "1 NonPrim - g0 w0 p0@0{1} a0 v- y- r[] o[] x{} b0" ∷
+    "= 2" ∷
+    "1 ExchangeStates c1 g0 w0 p0@0{1} a0 v- y- r[] o[] x{} b0" ∷
+    "= 4" ∷
+    "1 Construct c1 g0 w0 p0@0{1} a1 v1/0{1}{1} y- r[] o[] x{} b0" ∷
+    "= 6" ∷
+    "1 RegPrim c1 g0 w0 p1@1{1} a0 v1/0{1}{1} y- r[] o[] x{} b0" ∷
+    "syntax 4 5" ∷
+    [])
+unfolding cases_compute
+follow_syntax_feed_past_its_range = refl
+
+-- A feed has a count.
+follow_syntax_feed_without_its_count :
+    put_by "follow" (
+    "start 1" ∷
+    "merge 1" ∷
+    "rounds 2" ∷
+    "feed 1 7" ∷
+    [])
+    ≡ written (
+    "= 1" ∷
+    "1 NonPrim - g0 w0 p0@0{1} a0 v- y- r[] o[] x{} b0" ∷
+    "= 2" ∷
+    "1 ExchangeStates c1 g0 w0 p0@0{1} a0 v- y- r[] o[] x{} b0" ∷
+    "= 4" ∷
+    "1 Construct c1 g0 w0 p0@0{1} a1 v1/0{1}{1} y- r[] o[] x{} b0" ∷
+    "= 6" ∷
+    "1 RegPrim c1 g0 w0 p1@1{1} a0 v1/0{1}{1} y- r[] o[] x{} b0" ∷
+    "syntax 4 3" ∷
+    [])
+unfolding cases_compute
+follow_syntax_feed_without_its_count = refl
+
+-- Followers are 1 to 32.
+follow_syntax_follower_past_its_range :
+    put_by "follow" (
+    "start 1" ∷
+    "merge 1" ∷
+    "rounds 2" ∷
+    "follower 33 1" ∷
+    [])
+    ≡ written (
+    "= 1" ∷
+    "1 NonPrim - g0 w0 p0@0{1} a0 v- y- r[] o[] x{} b0" ∷
+    "= 2" ∷
+    "1 ExchangeStates c1 g0 w0 p0@0{1} a0 v- y- r[] o[] x{} b0" ∷
+    "= 4" ∷
+    "1 Construct c1 g0 w0 p0@0{1} a1 v1/0{1}{1} y- r[] o[] x{} b0" ∷
+    "= 6" ∷
+    "1 RegPrim c1 g0 w0 p1@1{1} a0 v1/0{1}{1} y- r[] o[] x{} b0" ∷
+    "syntax 4 5" ∷
+    [])
+unfolding cases_compute
+follow_syntax_follower_past_its_range = refl
+
 -- A schedule of followers ends with end.
 follow_syntax_no_end :
     put_by "follow" (
@@ -323,339 +764,3 @@ follow_would_go_back :
     [])
 unfolding cases_compute
 follow_would_go_back = refl
-
--- Follow: a follower is unknown, down or up.
-generated_follow_a_follower_is_unknown_down_or_up_a :
-    put_by "follow" (
-    "start 1 2 3*2 4 5*4" ∷
-    "merge 1 2 3 4 5" ∷
-    "rounds 2" ∷
-    "split 1 2 3 4 5" ∷
-    "merge 1 2 3 4 5" ∷
-    "order 1" ∷
-    "receive 2 1" ∷
-    "gather" ∷
-    "rounds 1" ∷
-    "follower 4 4" ∷
-    "request 1 put \"x\" 56; put \"a\" -6 ? get \"a\"" ∷
-    "split 1 2" ∷
-    "split 3 4 5" ∷
-    "merge 3 4 5" ∷
-    "gather" ∷
-    "gather" ∷
-    "split 3 4 5" ∷
-    "merge 1 2 3 4 5" ∷
-    "rounds 4" ∷
-    "feed 1 4 100" ∷
-    "request 2 inc \"a\" 1; inc \"b\" 6; put \"ab\" 13" ∷
-    "fweak 4 get \"ab\"" ∷
-    "order 2" ∷
-    "gather" ∷
-    "frecover 3" ∷
-    "end" ∷
-    [])
-    ≡ written (
-    "= 1" ∷
-    "1 NonPrim - g0 w0 p0@0{1,2,3*2,4,5*4} a0 v- y- r[] o[] x{} b0" ∷
-    "2 NonPrim - g0 w0 p0@0{1,2,3*2,4,5*4} a0 v- y- r[] o[] x{} b0" ∷
-    "3 NonPrim - g0 w0 p0@0{1,2,3*2,4,5*4} a0 v- y- r[] o[] x{} b0" ∷
-    "4 NonPrim - g0 w0 p0@0{1,2,3*2,4,5*4} a0 v- y- r[] o[] x{} b0" ∷
-    "5 NonPrim - g0 w0 p0@0{1,2,3*2,4,5*4} a0 v- y- r[] o[] x{} b0" ∷
-    "= 2" ∷
-    "1 ExchangeStates c1 g0 w0 p0@0{1,2,3*2,4,5*4} a0 v- y- r[] o[] x{} b0" ∷
-    "2 ExchangeStates c1 g0 w0 p0@0{1,2,3*2,4,5*4} a0 v- y- r[] o[] x{} b0" ∷
-    "3 ExchangeStates c1 g0 w0 p0@0{1,2,3*2,4,5*4} a0 v- y- r[] o[] x{} b0" ∷
-    "4 ExchangeStates c1 g0 w0 p0@0{1,2,3*2,4,5*4} a0 v- y- r[] o[] x{} b0" ∷
-    "5 ExchangeStates c1 g0 w0 p0@0{1,2,3*2,4,5*4} a0 v- y- r[] o[] x{} b0" ∷
-    "= 4" ∷
-    "1 Construct c1 g0 w0 p0@0{1,2,3*2,4,5*4} a1 v1/0{1,2,3,4,5}{1} y- r[] o[] x{} b0" ∷
-    "= 5" ∷
-    "2 Construct c1 g0 w0 p0@0{1,2,3*2,4,5*4} a1 v1/0{1,2,3,4,5}{2} y- r[] o[] x{} b0" ∷
-    "= 6" ∷
-    "3 Construct c1 g0 w0 p0@0{1,2,3*2,4,5*4} a1 v1/0{1,2,3,4,5}{3} y- r[] o[] x{} b0" ∷
-    "= 7" ∷
-    "4 Construct c1 g0 w0 p0@0{1,2,3*2,4,5*4} a1 v1/0{1,2,3,4,5}{4} y- r[] o[] x{} b0" ∷
-    "= 8" ∷
-    "5 Construct c1 g0 w0 p0@0{1,2,3*2,4,5*4} a1 v1/0{1,2,3,4,5}{5} y- r[] o[] x{} b0" ∷
-    "= 10" ∷
-    "1 RegPrim c1 g0 w0 p1@1{1,2,3*2,4,5*4} a0 v1/0{1,2,3,4,5}{1} y- r[] o[] x{} b0" ∷
-    "= 11" ∷
-    "2 RegPrim c1 g0 w0 p1@1{1,2,3*2,4,5*4} a0 v1/0{1,2,3,4,5}{2} y- r[] o[] x{} b0" ∷
-    "= 12" ∷
-    "3 RegPrim c1 g0 w0 p1@1{1,2,3*2,4,5*4} a0 v1/0{1,2,3,4,5}{3} y- r[] o[] x{} b0" ∷
-    "= 13" ∷
-    "4 RegPrim c1 g0 w0 p1@1{1,2,3*2,4,5*4} a0 v1/0{1,2,3,4,5}{4} y- r[] o[] x{} b0" ∷
-    "= 14" ∷
-    "5 RegPrim c1 g0 w0 p1@1{1,2,3*2,4,5*4} a0 v1/0{1,2,3,4,5}{5} y- r[] o[] x{} b0" ∷
-    "= 15" ∷
-    "1 TransPrim t1 g0 w0 p1@1{1,2,3*2,4,5*4} a0 v1/0{1,2,3,4,5}{1} y- r[] o[] x{} b0" ∷
-    "2 TransPrim t1 g0 w0 p1@1{1,2,3*2,4,5*4} a0 v1/0{1,2,3,4,5}{2} y- r[] o[] x{} b0" ∷
-    "3 TransPrim t1 g0 w0 p1@1{1,2,3*2,4,5*4} a0 v1/0{1,2,3,4,5}{3} y- r[] o[] x{} b0" ∷
-    "4 TransPrim t1 g0 w0 p1@1{1,2,3*2,4,5*4} a0 v1/0{1,2,3,4,5}{4} y- r[] o[] x{} b0" ∷
-    "5 TransPrim t1 g0 w0 p1@1{1,2,3*2,4,5*4} a0 v1/0{1,2,3,4,5}{5} y- r[] o[] x{} b0" ∷
-    "= 16" ∷
-    "1 ExchangeStates c2 g0 w0 p1@1{1,2,3*2,4,5*4} a0 v- y![] r[] o[] x{} b0" ∷
-    "2 ExchangeStates c2 g0 w0 p1@1{1,2,3*2,4,5*4} a0 v- y![] r[] o[] x{} b0" ∷
-    "3 ExchangeStates c2 g0 w0 p1@1{1,2,3*2,4,5*4} a0 v- y![] r[] o[] x{} b0" ∷
-    "4 ExchangeStates c2 g0 w0 p1@1{1,2,3*2,4,5*4} a0 v- y![] r[] o[] x{} b0" ∷
-    "5 ExchangeStates c2 g0 w0 p1@1{1,2,3*2,4,5*4} a0 v- y![] r[] o[] x{} b0" ∷
-    "= 21" ∷
-    "1 Construct c2 g0 w0 p1@1{1,2,3*2,4,5*4} a1 v2/1{1,2,3,4,5}{1} y![] r[] o[] x{} b0" ∷
-    "= 22" ∷
-    "2 Construct c2 g0 w0 p1@1{1,2,3*2,4,5*4} a1 v2/1{1,2,3,4,5}{2} y![] r[] o[] x{} b0" ∷
-    "= 23" ∷
-    "3 Construct c2 g0 w0 p1@1{1,2,3*2,4,5*4} a1 v2/1{1,2,3,4,5}{3} y![] r[] o[] x{} b0" ∷
-    "= 24" ∷
-    "4 Construct c2 g0 w0 p1@1{1,2,3*2,4,5*4} a1 v2/1{1,2,3,4,5}{4} y![] r[] o[] x{} b0" ∷
-    "= 25" ∷
-    "5 Construct c2 g0 w0 p1@1{1,2,3*2,4,5*4} a1 v2/1{1,2,3,4,5}{5} y![] r[] o[] x{} b0" ∷
-    "= 26" ∷
-    "follower 4 0" ∷
-    "= 27" ∷
-    "1 Construct c2 g0 w0 p1@1{1,2,3*2,4,5*4} a1 v2/1{1,2,3,4,5}{1} y![] r[] o[] x{} b1" ∷
-    "= 28" ∷
-    "1 No t2 g0 w0 p1@1{1,2,3*2,4,5*4} a1 v2/1{1,2,3,4,5}{1} y![] r[] o[] x{} b1" ∷
-    "2 No t2 g0 w0 p1@1{1,2,3*2,4,5*4} a1 v2/1{1,2,3,4,5}{2} y![] r[] o[] x{} b0" ∷
-    "= 29" ∷
-    "3 No t2 g0 w0 p1@1{1,2,3*2,4,5*4} a1 v2/1{1,2,3,4,5}{3} y![] r[] o[] x{} b0" ∷
-    "4 No t2 g0 w0 p1@1{1,2,3*2,4,5*4} a1 v2/1{1,2,3,4,5}{4} y![] r[] o[] x{} b0" ∷
-    "5 No t2 g0 w0 p1@1{1,2,3*2,4,5*4} a1 v2/1{1,2,3,4,5}{5} y![] r[] o[] x{} b0" ∷
-    "= 30" ∷
-    "3 ExchangeStates c3 g0 w0 p1@1{1,2,3*2,4,5*4} a1 v- y![] r[] o[] x{} b0" ∷
-    "4 ExchangeStates c3 g0 w0 p1@1{1,2,3*2,4,5*4} a1 v- y![] r[] o[] x{} b0" ∷
-    "5 ExchangeStates c3 g0 w0 p1@1{1,2,3*2,4,5*4} a1 v- y![] r[] o[] x{} b0" ∷
-    "= 33" ∷
-    "3 NonPrim t3 g0 w0 p1@1{1,2,3*2,4,5*4} a1 v- y![] r[] o[] x{} b0" ∷
-    "4 NonPrim t3 g0 w0 p1@1{1,2,3*2,4,5*4} a1 v- y![] r[] o[] x{} b0" ∷
-    "5 NonPrim t3 g0 w0 p1@1{1,2,3*2,4,5*4} a1 v- y![] r[] o[] x{} b0" ∷
-    "= 34" ∷
-    "1 ExchangeStates c4 g0 w0 p1@1{1,2,3*2,4,5*4} a1 v- y![] r[] o[] x{} b1" ∷
-    "2 ExchangeStates c4 g0 w0 p1@1{1,2,3*2,4,5*4} a1 v- y![] r[] o[] x{} b0" ∷
-    "3 ExchangeStates c4 g0 w0 p1@1{1,2,3*2,4,5*4} a1 v- y![] r[] o[] x{} b0" ∷
-    "4 ExchangeStates c4 g0 w0 p1@1{1,2,3*2,4,5*4} a1 v- y![] r[] o[] x{} b0" ∷
-    "5 ExchangeStates c4 g0 w0 p1@1{1,2,3*2,4,5*4} a1 v- y![] r[] o[] x{} b0" ∷
-    "= 36" ∷
-    "1 Construct c4 g0 w0 p1@1{1,2,3*2,4,5*4} a2 v4/1{1,2,3,4,5}{1} y![] r[] o[] x{} b1" ∷
-    "= 37" ∷
-    "2 Construct c4 g0 w0 p1@1{1,2,3*2,4,5*4} a2 v4/1{1,2,3,4,5}{2} y![] r[] o[] x{} b0" ∷
-    "= 38" ∷
-    "3 Construct c4 g0 w0 p1@1{1,2,3*2,4,5*4} a2 v4/1{1,2,3,4,5}{3} y![] r[] o[] x{} b0" ∷
-    "= 39" ∷
-    "4 Construct c4 g0 w0 p1@1{1,2,3*2,4,5*4} a2 v4/1{1,2,3,4,5}{4} y![] r[] o[] x{} b0" ∷
-    "= 40" ∷
-    "5 Construct c4 g0 w0 p1@1{1,2,3*2,4,5*4} a2 v4/1{1,2,3,4,5}{5} y![] r[] o[] x{} b0" ∷
-    "= 42" ∷
-    "made 1:1 put \"x\" 56; put \"a\" -6 ? get \"a\"" ∷
-    "1 RegPrim c4 g0 w0 p2@4{1,2,3*2,4,5*4} a0 v4/1{1,2,3,4,5}{1} y- r[] o[1:1] x{} b0" ∷
-    "= 43" ∷
-    "2 RegPrim c4 g0 w0 p2@4{1,2,3*2,4,5*4} a0 v4/1{1,2,3,4,5}{2} y- r[] o[] x{} b0" ∷
-    "= 44" ∷
-    "3 RegPrim c4 g0 w0 p2@4{1,2,3*2,4,5*4} a0 v4/1{1,2,3,4,5}{3} y- r[] o[] x{} b0" ∷
-    "= 45" ∷
-    "4 RegPrim c4 g0 w0 p2@4{1,2,3*2,4,5*4} a0 v4/1{1,2,3,4,5}{4} y- r[] o[] x{} b0" ∷
-    "= 46" ∷
-    "5 RegPrim c4 g0 w0 p2@4{1,2,3*2,4,5*4} a0 v4/1{1,2,3,4,5}{5} y- r[] o[] x{} b0" ∷
-    "= 48" ∷
-    "order 1 1:1" ∷
-    "1 RegPrim c4 g1 w0 p2@4{1,2,3*2,4,5*4} a0 v4/1{1,2,3,4,5}{1} y- r[] o[] x{} b0" ∷
-    "reply 1:1 done ? -6" ∷
-    "= 49" ∷
-    "2 RegPrim c4 g1 w0 p2@4{1,2,3*2,4,5*4} a0 v4/1{1,2,3,4,5}{2} y- r[] o[] x{} b0" ∷
-    "= 50" ∷
-    "3 RegPrim c4 g1 w0 p2@4{1,2,3*2,4,5*4} a0 v4/1{1,2,3,4,5}{3} y- r[] o[] x{} b0" ∷
-    "= 51" ∷
-    "4 RegPrim c4 g1 w0 p2@4{1,2,3*2,4,5*4} a0 v4/1{1,2,3,4,5}{4} y- r[] o[] x{} b0" ∷
-    "= 52" ∷
-    "5 RegPrim c4 g1 w0 p2@4{1,2,3*2,4,5*4} a0 v4/1{1,2,3,4,5}{5} y- r[] o[] x{} b0" ∷
-    "= 54" ∷
-    "follower 4 1" ∷
-    "= 55" ∷
-    "made 2:1 inc \"a\" 1; inc \"b\" 6; put \"ab\" 13" ∷
-    "2 RegPrim c4 g1 w0 p2@4{1,2,3*2,4,5*4} a0 v4/1{1,2,3,4,5}{2} y- r[] o[2:1] x{} b0" ∷
-    "= 56" ∷
-    "fweak 4 absent" ∷
-    "refused 25 20 3" ∷
-    [])
-unfolding cases_compute
-generated_follow_a_follower_is_unknown_down_or_up_a = refl
-
--- Follow: a place was discarded.
-generated_follow_a_place_was_discarded_a :
-    put_by "follow" (
-    "start 1" ∷
-    "merge 1" ∷
-    "rounds 3" ∷
-    "gather" ∷
-    "gather" ∷
-    "gather" ∷
-    "gather" ∷
-    "show order" ∷
-    "gather" ∷
-    "follower 1 1" ∷
-    "request 1 del \"a\"" ∷
-    "split 1" ∷
-    "merge 1" ∷
-    "gather" ∷
-    "follower 4 1" ∷
-    "fweak 4 get \"ab\"" ∷
-    "deliver 1 1" ∷
-    "request 1 need \"x\" 16 ? get \"a\"" ∷
-    "fstop 4 4 01" ∷
-    "request 1 cas \"b\" absent 58 ? get \"a\"" ∷
-    "feed 1 4 1000000" ∷
-    "rounds 3" ∷
-    "rounds 1" ∷
-    "rounds 2" ∷
-    "feed 1 1 1000000" ∷
-    "end" ∷
-    [])
-    ≡ written (
-    "= 1" ∷
-    "1 NonPrim - g0 w0 p0@0{1} a0 v- y- r[] o[] x{} b0" ∷
-    "= 2" ∷
-    "1 ExchangeStates c1 g0 w0 p0@0{1} a0 v- y- r[] o[] x{} b0" ∷
-    "= 4" ∷
-    "1 Construct c1 g0 w0 p0@0{1} a1 v1/0{1}{1} y- r[] o[] x{} b0" ∷
-    "= 6" ∷
-    "1 RegPrim c1 g0 w0 p1@1{1} a0 v1/0{1}{1} y- r[] o[] x{} b0" ∷
-    "= 12" ∷
-    "all []" ∷
-    "= 14" ∷
-    "follower 1 0" ∷
-    "= 15" ∷
-    "made 1:1 del \"a\"" ∷
-    "1 RegPrim c1 g0 w0 p1@1{1} a0 v1/0{1}{1} y- r[] o[1:1] x{} b0" ∷
-    "= 16" ∷
-    "1 TransPrim t1 g0 w0 p1@1{1} a0 v1/0{1}{1} y- r[] o[1:1] x{} b0" ∷
-    "= 17" ∷
-    "1 ExchangeStates c2 g0 w0 p1@1{1} a0 v- y![] r[1:1] o[] x{} b0" ∷
-    "= 19" ∷
-    "follower 4 0" ∷
-    "= 20" ∷
-    "fweak 4 absent" ∷
-    "= 21" ∷
-    "1 Construct c2 g0 w0 p1@1{1} a1 v2/1{1}{1} y![] r[1:1] o[] x{} b0" ∷
-    "= 22" ∷
-    "1 Construct c2 g0 w0 p1@1{1} a1 v2/1{1}{1} y![] r[1:1] o[] x{} b1" ∷
-    "= 24" ∷
-    "1 Construct c2 g0 w0 p1@1{1} a1 v2/1{1}{1} y![] r[1:1] o[] x{} b2" ∷
-    "= 27" ∷
-    "made 1:2 need \"x\" 16 ? get \"a\"" ∷
-    "made 1:3 cas \"b\" absent 58 ? get \"a\"" ∷
-    "order 1 1:1" ∷
-    "1 RegPrim c2 g1 w0 p2@2{1} a0 v2/1{1}{1} y- r[] o[1:2,1:3] x{} b0" ∷
-    "reply 1:1 done" ∷
-    "= 29" ∷
-    "order 2 1:2" ∷
-    "order 3 1:3" ∷
-    "1 RegPrim c2 g3 w1 p2@2{1} a0 v2/1{1}{1} y- r[] o[] x{} b0" ∷
-    "reply 1:2 aborted 1 ? absent" ∷
-    "reply 1:3 done ? absent" ∷
-    "refused 25 18 1" ∷
-    [])
-unfolding cases_compute
-generated_follow_a_place_was_discarded_a = refl
-
--- Follow: a replica that feeds was recovered.
-generated_follow_over_a_recovery_a :
-    put_by "follow" (
-    "start 8" ∷
-    "merge 8" ∷
-    "rounds 1" ∷
-    "rounds 3" ∷
-    "request 8 inc \"y\" 6; del \"b\"; inc \"x\" 11" ∷
-    "request 8 inc \"a\" 4; put \"x\" 96 ? get \"x\"" ∷
-    "gather" ∷
-    "deliver 8 2" ∷
-    "split 8" ∷
-    "merge 8" ∷
-    "order 8" ∷
-    "follower 2 8" ∷
-    "request 8 put \"x\" 0; inc \"ab\" 3; put \"abc\" 7; inc \"x\" -9223372036854775808 ? keys \"ab\"" ∷
-    "request 8 inc \"y\" 9223372036854775807; inc \"b\" 5; put \"ab\" \"\"; move \"y\" \"a\" 1 ? keys \"k\"" ∷
-    "rounds 1" ∷
-    "gather" ∷
-    "rounds 3" ∷
-    "split 8" ∷
-    "stop 8 0 -" ∷
-    "recover 8" ∷
-    "merge 8" ∷
-    "fweak 2 get \"y\"" ∷
-    "gather" ∷
-    "feed 8 2 2" ∷
-    "request 8 cas \"a\" 64 56 ? get \"abc\"" ∷
-    "split 8" ∷
-    "merge 8" ∷
-    "split 8" ∷
-    "merge 8" ∷
-    "end" ∷
-    [])
-    ≡ written (
-    "= 1" ∷
-    "8 NonPrim - g0 w0 p0@0{8} a0 v- y- r[] o[] x{} b0" ∷
-    "= 2" ∷
-    "8 ExchangeStates c1 g0 w0 p0@0{8} a0 v- y- r[] o[] x{} b0" ∷
-    "= 4" ∷
-    "8 Construct c1 g0 w0 p0@0{8} a1 v1/0{8}{8} y- r[] o[] x{} b0" ∷
-    "= 6" ∷
-    "8 RegPrim c1 g0 w0 p1@1{8} a0 v1/0{8}{8} y- r[] o[] x{} b0" ∷
-    "= 9" ∷
-    "made 8:1 inc \"y\" 6; del \"b\"; inc \"x\" 11" ∷
-    "8 RegPrim c1 g0 w0 p1@1{8} a0 v1/0{8}{8} y- r[] o[8:1] x{} b0" ∷
-    "= 10" ∷
-    "made 8:2 inc \"a\" 4; put \"x\" 96 ? get \"x\"" ∷
-    "8 RegPrim c1 g0 w0 p1@1{8} a0 v1/0{8}{8} y- r[] o[8:1,8:2] x{} b0" ∷
-    "= 12" ∷
-    "order 1 8:1" ∷
-    "order 2 8:2" ∷
-    "8 RegPrim c1 g2 w0 p1@1{8} a0 v1/0{8}{8} y- r[] o[] x{} b0" ∷
-    "reply 8:1 done" ∷
-    "reply 8:2 done ? 96" ∷
-    "= 13" ∷
-    "8 TransPrim t1 g2 w0 p1@1{8} a0 v1/0{8}{8} y- r[] o[] x{} b0" ∷
-    "= 14" ∷
-    "8 ExchangeStates c2 g2 w0 p1@1{8} a0 v- y![] r[] o[] x{} b0" ∷
-    "= 16" ∷
-    "follower 2 2" ∷
-    "= 17" ∷
-    "8 ExchangeStates c2 g2 w0 p1@1{8} a0 v- y![] r[] o[] x{} b1" ∷
-    "= 18" ∷
-    "8 ExchangeStates c2 g2 w0 p1@1{8} a0 v- y![] r[] o[] x{} b2" ∷
-    "= 20" ∷
-    "8 Construct c2 g2 w0 p1@1{8} a1 v2/1{8}{8} y![] r[] o[] x{} b2" ∷
-    "= 23" ∷
-    "made 8:3 put \"x\" 0; inc \"ab\" 3; put \"abc\" 7; inc \"x\" -9223372036854775808 ? keys \"ab\"" ∷
-    "made 8:4 inc \"y\" 9223372036854775807; inc \"b\" 5; put \"ab\" \"\"; move \"y\" \"a\" 1 ? keys \"k\"" ∷
-    "8 RegPrim c2 g2 w0 p2@2{8} a0 v2/1{8}{8} y- r[] o[8:3,8:4] x{} b0" ∷
-    "= 25" ∷
-    "order 3 8:3" ∷
-    "order 4 8:4" ∷
-    "8 RegPrim c2 g4 w2 p2@2{8} a0 v2/1{8}{8} y- r[] o[] x{} b0" ∷
-    "reply 8:3 done ? keys \"ab\" \"abc\"" ∷
-    "reply 8:4 range 1 ? keys" ∷
-    "= 27" ∷
-    "8 TransPrim t2 g4 w2 p2@2{8} a0 v2/1{8}{8} y- r[] o[] x{} b0" ∷
-    "= 28" ∷
-    "8 Down" ∷
-    "= 29" ∷
-    "8 NonPrim - g4 w2 p2@2{8} a0 v2/1{8}{8} y- r[] o[] x{} b0" ∷
-    "= 30" ∷
-    "8 ExchangeStates c3 g4 w2 p2@2{8} a0 v2/1{8}{8} y- r[] o[] x{} b0" ∷
-    "= 31" ∷
-    "fweak 2 6" ∷
-    "= 33" ∷
-    "follower 2 4" ∷
-    "= 34" ∷
-    "8 ExchangeStates c3 g4 w2 p2@2{8} a0 v2/1{8}{8} y- r[] o[] x{} b1" ∷
-    "= 35" ∷
-    "8 NonPrim t3 g4 w2 p2@2{8} a0 v2/1{8}{8} y- r[] o[] x{} b1" ∷
-    "= 36" ∷
-    "8 ExchangeStates c4 g4 w2 p2@2{8} a0 v2/1{8}{8} y- r[] o[] x{} b1" ∷
-    "= 37" ∷
-    "8 NonPrim t4 g4 w2 p2@2{8} a0 v2/1{8}{8} y- r[] o[] x{} b1" ∷
-    "= 38" ∷
-    "8 ExchangeStates c5 g4 w2 p2@2{8} a0 v2/1{8}{8} y- r[] o[] x{} b1" ∷
-    "end 38" ∷
-    [])
-unfolding cases_compute
-generated_follow_over_a_recovery_a = refl

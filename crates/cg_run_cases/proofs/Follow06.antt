@@ -4,6 +4,342 @@ use mathlib.Core.Path.{refl}
 use Rattle.cg_run_cases.specs.Replaying.{put_by, written}
 use Rattle.cg_run_cases.specs.Computing.{cases_compute}
 
+-- Follow: a follower is unknown, down or up.
+generated_follow_a_follower_is_unknown_down_or_up_a :
+    put_by "follow" (
+    "start 1 2 3*2 4 5*4" ∷
+    "merge 1 2 3 4 5" ∷
+    "rounds 2" ∷
+    "split 1 2 3 4 5" ∷
+    "merge 1 2 3 4 5" ∷
+    "order 1" ∷
+    "receive 2 1" ∷
+    "gather" ∷
+    "rounds 1" ∷
+    "follower 4 4" ∷
+    "request 1 put \"x\" 56; put \"a\" -6 ? get \"a\"" ∷
+    "split 1 2" ∷
+    "split 3 4 5" ∷
+    "merge 3 4 5" ∷
+    "gather" ∷
+    "gather" ∷
+    "split 3 4 5" ∷
+    "merge 1 2 3 4 5" ∷
+    "rounds 4" ∷
+    "feed 1 4 100" ∷
+    "request 2 inc \"a\" 1; inc \"b\" 6; put \"ab\" 13" ∷
+    "fweak 4 get \"ab\"" ∷
+    "order 2" ∷
+    "gather" ∷
+    "frecover 3" ∷
+    "end" ∷
+    [])
+    ≡ written (
+    "= 1" ∷
+    "1 NonPrim - g0 w0 p0@0{1,2,3*2,4,5*4} a0 v- y- r[] o[] x{} b0" ∷
+    "2 NonPrim - g0 w0 p0@0{1,2,3*2,4,5*4} a0 v- y- r[] o[] x{} b0" ∷
+    "3 NonPrim - g0 w0 p0@0{1,2,3*2,4,5*4} a0 v- y- r[] o[] x{} b0" ∷
+    "4 NonPrim - g0 w0 p0@0{1,2,3*2,4,5*4} a0 v- y- r[] o[] x{} b0" ∷
+    "5 NonPrim - g0 w0 p0@0{1,2,3*2,4,5*4} a0 v- y- r[] o[] x{} b0" ∷
+    "= 2" ∷
+    "1 ExchangeStates c1 g0 w0 p0@0{1,2,3*2,4,5*4} a0 v- y- r[] o[] x{} b0" ∷
+    "2 ExchangeStates c1 g0 w0 p0@0{1,2,3*2,4,5*4} a0 v- y- r[] o[] x{} b0" ∷
+    "3 ExchangeStates c1 g0 w0 p0@0{1,2,3*2,4,5*4} a0 v- y- r[] o[] x{} b0" ∷
+    "4 ExchangeStates c1 g0 w0 p0@0{1,2,3*2,4,5*4} a0 v- y- r[] o[] x{} b0" ∷
+    "5 ExchangeStates c1 g0 w0 p0@0{1,2,3*2,4,5*4} a0 v- y- r[] o[] x{} b0" ∷
+    "= 4" ∷
+    "1 Construct c1 g0 w0 p0@0{1,2,3*2,4,5*4} a1 v1/0{1,2,3,4,5}{1} y- r[] o[] x{} b0" ∷
+    "= 5" ∷
+    "2 Construct c1 g0 w0 p0@0{1,2,3*2,4,5*4} a1 v1/0{1,2,3,4,5}{2} y- r[] o[] x{} b0" ∷
+    "= 6" ∷
+    "3 Construct c1 g0 w0 p0@0{1,2,3*2,4,5*4} a1 v1/0{1,2,3,4,5}{3} y- r[] o[] x{} b0" ∷
+    "= 7" ∷
+    "4 Construct c1 g0 w0 p0@0{1,2,3*2,4,5*4} a1 v1/0{1,2,3,4,5}{4} y- r[] o[] x{} b0" ∷
+    "= 8" ∷
+    "5 Construct c1 g0 w0 p0@0{1,2,3*2,4,5*4} a1 v1/0{1,2,3,4,5}{5} y- r[] o[] x{} b0" ∷
+    "= 10" ∷
+    "1 RegPrim c1 g0 w0 p1@1{1,2,3*2,4,5*4} a0 v1/0{1,2,3,4,5}{1} y- r[] o[] x{} b0" ∷
+    "= 11" ∷
+    "2 RegPrim c1 g0 w0 p1@1{1,2,3*2,4,5*4} a0 v1/0{1,2,3,4,5}{2} y- r[] o[] x{} b0" ∷
+    "= 12" ∷
+    "3 RegPrim c1 g0 w0 p1@1{1,2,3*2,4,5*4} a0 v1/0{1,2,3,4,5}{3} y- r[] o[] x{} b0" ∷
+    "= 13" ∷
+    "4 RegPrim c1 g0 w0 p1@1{1,2,3*2,4,5*4} a0 v1/0{1,2,3,4,5}{4} y- r[] o[] x{} b0" ∷
+    "= 14" ∷
+    "5 RegPrim c1 g0 w0 p1@1{1,2,3*2,4,5*4} a0 v1/0{1,2,3,4,5}{5} y- r[] o[] x{} b0" ∷
+    "= 15" ∷
+    "1 TransPrim t1 g0 w0 p1@1{1,2,3*2,4,5*4} a0 v1/0{1,2,3,4,5}{1} y- r[] o[] x{} b0" ∷
+    "2 TransPrim t1 g0 w0 p1@1{1,2,3*2,4,5*4} a0 v1/0{1,2,3,4,5}{2} y- r[] o[] x{} b0" ∷
+    "3 TransPrim t1 g0 w0 p1@1{1,2,3*2,4,5*4} a0 v1/0{1,2,3,4,5}{3} y- r[] o[] x{} b0" ∷
+    "4 TransPrim t1 g0 w0 p1@1{1,2,3*2,4,5*4} a0 v1/0{1,2,3,4,5}{4} y- r[] o[] x{} b0" ∷
+    "5 TransPrim t1 g0 w0 p1@1{1,2,3*2,4,5*4} a0 v1/0{1,2,3,4,5}{5} y- r[] o[] x{} b0" ∷
+    "= 16" ∷
+    "1 ExchangeStates c2 g0 w0 p1@1{1,2,3*2,4,5*4} a0 v- y![] r[] o[] x{} b0" ∷
+    "2 ExchangeStates c2 g0 w0 p1@1{1,2,3*2,4,5*4} a0 v- y![] r[] o[] x{} b0" ∷
+    "3 ExchangeStates c2 g0 w0 p1@1{1,2,3*2,4,5*4} a0 v- y![] r[] o[] x{} b0" ∷
+    "4 ExchangeStates c2 g0 w0 p1@1{1,2,3*2,4,5*4} a0 v- y![] r[] o[] x{} b0" ∷
+    "5 ExchangeStates c2 g0 w0 p1@1{1,2,3*2,4,5*4} a0 v- y![] r[] o[] x{} b0" ∷
+    "= 21" ∷
+    "1 Construct c2 g0 w0 p1@1{1,2,3*2,4,5*4} a1 v2/1{1,2,3,4,5}{1} y![] r[] o[] x{} b0" ∷
+    "= 22" ∷
+    "2 Construct c2 g0 w0 p1@1{1,2,3*2,4,5*4} a1 v2/1{1,2,3,4,5}{2} y![] r[] o[] x{} b0" ∷
+    "= 23" ∷
+    "3 Construct c2 g0 w0 p1@1{1,2,3*2,4,5*4} a1 v2/1{1,2,3,4,5}{3} y![] r[] o[] x{} b0" ∷
+    "= 24" ∷
+    "4 Construct c2 g0 w0 p1@1{1,2,3*2,4,5*4} a1 v2/1{1,2,3,4,5}{4} y![] r[] o[] x{} b0" ∷
+    "= 25" ∷
+    "5 Construct c2 g0 w0 p1@1{1,2,3*2,4,5*4} a1 v2/1{1,2,3,4,5}{5} y![] r[] o[] x{} b0" ∷
+    "= 26" ∷
+    "follower 4 0" ∷
+    "= 27" ∷
+    "1 Construct c2 g0 w0 p1@1{1,2,3*2,4,5*4} a1 v2/1{1,2,3,4,5}{1} y![] r[] o[] x{} b1" ∷
+    "= 28" ∷
+    "1 No t2 g0 w0 p1@1{1,2,3*2,4,5*4} a1 v2/1{1,2,3,4,5}{1} y![] r[] o[] x{} b1" ∷
+    "2 No t2 g0 w0 p1@1{1,2,3*2,4,5*4} a1 v2/1{1,2,3,4,5}{2} y![] r[] o[] x{} b0" ∷
+    "= 29" ∷
+    "3 No t2 g0 w0 p1@1{1,2,3*2,4,5*4} a1 v2/1{1,2,3,4,5}{3} y![] r[] o[] x{} b0" ∷
+    "4 No t2 g0 w0 p1@1{1,2,3*2,4,5*4} a1 v2/1{1,2,3,4,5}{4} y![] r[] o[] x{} b0" ∷
+    "5 No t2 g0 w0 p1@1{1,2,3*2,4,5*4} a1 v2/1{1,2,3,4,5}{5} y![] r[] o[] x{} b0" ∷
+    "= 30" ∷
+    "3 ExchangeStates c3 g0 w0 p1@1{1,2,3*2,4,5*4} a1 v- y![] r[] o[] x{} b0" ∷
+    "4 ExchangeStates c3 g0 w0 p1@1{1,2,3*2,4,5*4} a1 v- y![] r[] o[] x{} b0" ∷
+    "5 ExchangeStates c3 g0 w0 p1@1{1,2,3*2,4,5*4} a1 v- y![] r[] o[] x{} b0" ∷
+    "= 33" ∷
+    "3 NonPrim t3 g0 w0 p1@1{1,2,3*2,4,5*4} a1 v- y![] r[] o[] x{} b0" ∷
+    "4 NonPrim t3 g0 w0 p1@1{1,2,3*2,4,5*4} a1 v- y![] r[] o[] x{} b0" ∷
+    "5 NonPrim t3 g0 w0 p1@1{1,2,3*2,4,5*4} a1 v- y![] r[] o[] x{} b0" ∷
+    "= 34" ∷
+    "1 ExchangeStates c4 g0 w0 p1@1{1,2,3*2,4,5*4} a1 v- y![] r[] o[] x{} b1" ∷
+    "2 ExchangeStates c4 g0 w0 p1@1{1,2,3*2,4,5*4} a1 v- y![] r[] o[] x{} b0" ∷
+    "3 ExchangeStates c4 g0 w0 p1@1{1,2,3*2,4,5*4} a1 v- y![] r[] o[] x{} b0" ∷
+    "4 ExchangeStates c4 g0 w0 p1@1{1,2,3*2,4,5*4} a1 v- y![] r[] o[] x{} b0" ∷
+    "5 ExchangeStates c4 g0 w0 p1@1{1,2,3*2,4,5*4} a1 v- y![] r[] o[] x{} b0" ∷
+    "= 36" ∷
+    "1 Construct c4 g0 w0 p1@1{1,2,3*2,4,5*4} a2 v4/1{1,2,3,4,5}{1} y![] r[] o[] x{} b1" ∷
+    "= 37" ∷
+    "2 Construct c4 g0 w0 p1@1{1,2,3*2,4,5*4} a2 v4/1{1,2,3,4,5}{2} y![] r[] o[] x{} b0" ∷
+    "= 38" ∷
+    "3 Construct c4 g0 w0 p1@1{1,2,3*2,4,5*4} a2 v4/1{1,2,3,4,5}{3} y![] r[] o[] x{} b0" ∷
+    "= 39" ∷
+    "4 Construct c4 g0 w0 p1@1{1,2,3*2,4,5*4} a2 v4/1{1,2,3,4,5}{4} y![] r[] o[] x{} b0" ∷
+    "= 40" ∷
+    "5 Construct c4 g0 w0 p1@1{1,2,3*2,4,5*4} a2 v4/1{1,2,3,4,5}{5} y![] r[] o[] x{} b0" ∷
+    "= 42" ∷
+    "made 1:1 put \"x\" 56; put \"a\" -6 ? get \"a\"" ∷
+    "1 RegPrim c4 g0 w0 p2@4{1,2,3*2,4,5*4} a0 v4/1{1,2,3,4,5}{1} y- r[] o[1:1] x{} b0" ∷
+    "= 43" ∷
+    "2 RegPrim c4 g0 w0 p2@4{1,2,3*2,4,5*4} a0 v4/1{1,2,3,4,5}{2} y- r[] o[] x{} b0" ∷
+    "= 44" ∷
+    "3 RegPrim c4 g0 w0 p2@4{1,2,3*2,4,5*4} a0 v4/1{1,2,3,4,5}{3} y- r[] o[] x{} b0" ∷
+    "= 45" ∷
+    "4 RegPrim c4 g0 w0 p2@4{1,2,3*2,4,5*4} a0 v4/1{1,2,3,4,5}{4} y- r[] o[] x{} b0" ∷
+    "= 46" ∷
+    "5 RegPrim c4 g0 w0 p2@4{1,2,3*2,4,5*4} a0 v4/1{1,2,3,4,5}{5} y- r[] o[] x{} b0" ∷
+    "= 48" ∷
+    "order 1 1:1" ∷
+    "1 RegPrim c4 g1 w0 p2@4{1,2,3*2,4,5*4} a0 v4/1{1,2,3,4,5}{1} y- r[] o[] x{} b0" ∷
+    "reply 1:1 done ? -6" ∷
+    "= 49" ∷
+    "2 RegPrim c4 g1 w0 p2@4{1,2,3*2,4,5*4} a0 v4/1{1,2,3,4,5}{2} y- r[] o[] x{} b0" ∷
+    "= 50" ∷
+    "3 RegPrim c4 g1 w0 p2@4{1,2,3*2,4,5*4} a0 v4/1{1,2,3,4,5}{3} y- r[] o[] x{} b0" ∷
+    "= 51" ∷
+    "4 RegPrim c4 g1 w0 p2@4{1,2,3*2,4,5*4} a0 v4/1{1,2,3,4,5}{4} y- r[] o[] x{} b0" ∷
+    "= 52" ∷
+    "5 RegPrim c4 g1 w0 p2@4{1,2,3*2,4,5*4} a0 v4/1{1,2,3,4,5}{5} y- r[] o[] x{} b0" ∷
+    "= 54" ∷
+    "follower 4 1" ∷
+    "= 55" ∷
+    "made 2:1 inc \"a\" 1; inc \"b\" 6; put \"ab\" 13" ∷
+    "2 RegPrim c4 g1 w0 p2@4{1,2,3*2,4,5*4} a0 v4/1{1,2,3,4,5}{2} y- r[] o[2:1] x{} b0" ∷
+    "= 56" ∷
+    "fweak 4 absent" ∷
+    "refused 25 20 3" ∷
+    [])
+unfolding cases_compute
+generated_follow_a_follower_is_unknown_down_or_up_a = refl
+
+-- Follow: a place was discarded.
+generated_follow_a_place_was_discarded_a :
+    put_by "follow" (
+    "start 1" ∷
+    "merge 1" ∷
+    "rounds 3" ∷
+    "gather" ∷
+    "gather" ∷
+    "gather" ∷
+    "gather" ∷
+    "show order" ∷
+    "gather" ∷
+    "follower 1 1" ∷
+    "request 1 del \"a\"" ∷
+    "split 1" ∷
+    "merge 1" ∷
+    "gather" ∷
+    "follower 4 1" ∷
+    "fweak 4 get \"ab\"" ∷
+    "deliver 1 1" ∷
+    "request 1 need \"x\" 16 ? get \"a\"" ∷
+    "fstop 4 4 01" ∷
+    "request 1 cas \"b\" absent 58 ? get \"a\"" ∷
+    "feed 1 4 1000000" ∷
+    "rounds 3" ∷
+    "rounds 1" ∷
+    "rounds 2" ∷
+    "feed 1 1 1000000" ∷
+    "end" ∷
+    [])
+    ≡ written (
+    "= 1" ∷
+    "1 NonPrim - g0 w0 p0@0{1} a0 v- y- r[] o[] x{} b0" ∷
+    "= 2" ∷
+    "1 ExchangeStates c1 g0 w0 p0@0{1} a0 v- y- r[] o[] x{} b0" ∷
+    "= 4" ∷
+    "1 Construct c1 g0 w0 p0@0{1} a1 v1/0{1}{1} y- r[] o[] x{} b0" ∷
+    "= 6" ∷
+    "1 RegPrim c1 g0 w0 p1@1{1} a0 v1/0{1}{1} y- r[] o[] x{} b0" ∷
+    "= 12" ∷
+    "all []" ∷
+    "= 14" ∷
+    "follower 1 0" ∷
+    "= 15" ∷
+    "made 1:1 del \"a\"" ∷
+    "1 RegPrim c1 g0 w0 p1@1{1} a0 v1/0{1}{1} y- r[] o[1:1] x{} b0" ∷
+    "= 16" ∷
+    "1 TransPrim t1 g0 w0 p1@1{1} a0 v1/0{1}{1} y- r[] o[1:1] x{} b0" ∷
+    "= 17" ∷
+    "1 ExchangeStates c2 g0 w0 p1@1{1} a0 v- y![] r[1:1] o[] x{} b0" ∷
+    "= 19" ∷
+    "follower 4 0" ∷
+    "= 20" ∷
+    "fweak 4 absent" ∷
+    "= 21" ∷
+    "1 Construct c2 g0 w0 p1@1{1} a1 v2/1{1}{1} y![] r[1:1] o[] x{} b0" ∷
+    "= 22" ∷
+    "1 Construct c2 g0 w0 p1@1{1} a1 v2/1{1}{1} y![] r[1:1] o[] x{} b1" ∷
+    "= 24" ∷
+    "1 Construct c2 g0 w0 p1@1{1} a1 v2/1{1}{1} y![] r[1:1] o[] x{} b2" ∷
+    "= 27" ∷
+    "made 1:2 need \"x\" 16 ? get \"a\"" ∷
+    "made 1:3 cas \"b\" absent 58 ? get \"a\"" ∷
+    "order 1 1:1" ∷
+    "1 RegPrim c2 g1 w0 p2@2{1} a0 v2/1{1}{1} y- r[] o[1:2,1:3] x{} b0" ∷
+    "reply 1:1 done" ∷
+    "= 29" ∷
+    "order 2 1:2" ∷
+    "order 3 1:3" ∷
+    "1 RegPrim c2 g3 w1 p2@2{1} a0 v2/1{1}{1} y- r[] o[] x{} b0" ∷
+    "reply 1:2 aborted 1 ? absent" ∷
+    "reply 1:3 done ? absent" ∷
+    "refused 25 18 1" ∷
+    [])
+unfolding cases_compute
+generated_follow_a_place_was_discarded_a = refl
+
+-- Follow: a replica that feeds was recovered.
+generated_follow_over_a_recovery_a :
+    put_by "follow" (
+    "start 8" ∷
+    "merge 8" ∷
+    "rounds 1" ∷
+    "rounds 3" ∷
+    "request 8 inc \"y\" 6; del \"b\"; inc \"x\" 11" ∷
+    "request 8 inc \"a\" 4; put \"x\" 96 ? get \"x\"" ∷
+    "gather" ∷
+    "deliver 8 2" ∷
+    "split 8" ∷
+    "merge 8" ∷
+    "order 8" ∷
+    "follower 2 8" ∷
+    "request 8 put \"x\" 0; inc \"ab\" 3; put \"abc\" 7; inc \"x\" -9223372036854775808 ? keys \"ab\"" ∷
+    "request 8 inc \"y\" 9223372036854775807; inc \"b\" 5; put \"ab\" \"\"; move \"y\" \"a\" 1 ? keys \"k\"" ∷
+    "rounds 1" ∷
+    "gather" ∷
+    "rounds 3" ∷
+    "split 8" ∷
+    "stop 8 0 -" ∷
+    "recover 8" ∷
+    "merge 8" ∷
+    "fweak 2 get \"y\"" ∷
+    "gather" ∷
+    "feed 8 2 2" ∷
+    "request 8 cas \"a\" 64 56 ? get \"abc\"" ∷
+    "split 8" ∷
+    "merge 8" ∷
+    "split 8" ∷
+    "merge 8" ∷
+    "end" ∷
+    [])
+    ≡ written (
+    "= 1" ∷
+    "8 NonPrim - g0 w0 p0@0{8} a0 v- y- r[] o[] x{} b0" ∷
+    "= 2" ∷
+    "8 ExchangeStates c1 g0 w0 p0@0{8} a0 v- y- r[] o[] x{} b0" ∷
+    "= 4" ∷
+    "8 Construct c1 g0 w0 p0@0{8} a1 v1/0{8}{8} y- r[] o[] x{} b0" ∷
+    "= 6" ∷
+    "8 RegPrim c1 g0 w0 p1@1{8} a0 v1/0{8}{8} y- r[] o[] x{} b0" ∷
+    "= 9" ∷
+    "made 8:1 inc \"y\" 6; del \"b\"; inc \"x\" 11" ∷
+    "8 RegPrim c1 g0 w0 p1@1{8} a0 v1/0{8}{8} y- r[] o[8:1] x{} b0" ∷
+    "= 10" ∷
+    "made 8:2 inc \"a\" 4; put \"x\" 96 ? get \"x\"" ∷
+    "8 RegPrim c1 g0 w0 p1@1{8} a0 v1/0{8}{8} y- r[] o[8:1,8:2] x{} b0" ∷
+    "= 12" ∷
+    "order 1 8:1" ∷
+    "order 2 8:2" ∷
+    "8 RegPrim c1 g2 w0 p1@1{8} a0 v1/0{8}{8} y- r[] o[] x{} b0" ∷
+    "reply 8:1 done" ∷
+    "reply 8:2 done ? 96" ∷
+    "= 13" ∷
+    "8 TransPrim t1 g2 w0 p1@1{8} a0 v1/0{8}{8} y- r[] o[] x{} b0" ∷
+    "= 14" ∷
+    "8 ExchangeStates c2 g2 w0 p1@1{8} a0 v- y![] r[] o[] x{} b0" ∷
+    "= 16" ∷
+    "follower 2 2" ∷
+    "= 17" ∷
+    "8 ExchangeStates c2 g2 w0 p1@1{8} a0 v- y![] r[] o[] x{} b1" ∷
+    "= 18" ∷
+    "8 ExchangeStates c2 g2 w0 p1@1{8} a0 v- y![] r[] o[] x{} b2" ∷
+    "= 20" ∷
+    "8 Construct c2 g2 w0 p1@1{8} a1 v2/1{8}{8} y![] r[] o[] x{} b2" ∷
+    "= 23" ∷
+    "made 8:3 put \"x\" 0; inc \"ab\" 3; put \"abc\" 7; inc \"x\" -9223372036854775808 ? keys \"ab\"" ∷
+    "made 8:4 inc \"y\" 9223372036854775807; inc \"b\" 5; put \"ab\" \"\"; move \"y\" \"a\" 1 ? keys \"k\"" ∷
+    "8 RegPrim c2 g2 w0 p2@2{8} a0 v2/1{8}{8} y- r[] o[8:3,8:4] x{} b0" ∷
+    "= 25" ∷
+    "order 3 8:3" ∷
+    "order 4 8:4" ∷
+    "8 RegPrim c2 g4 w2 p2@2{8} a0 v2/1{8}{8} y- r[] o[] x{} b0" ∷
+    "reply 8:3 done ? keys \"ab\" \"abc\"" ∷
+    "reply 8:4 range 1 ? keys" ∷
+    "= 27" ∷
+    "8 TransPrim t2 g4 w2 p2@2{8} a0 v2/1{8}{8} y- r[] o[] x{} b0" ∷
+    "= 28" ∷
+    "8 Down" ∷
+    "= 29" ∷
+    "8 NonPrim - g4 w2 p2@2{8} a0 v2/1{8}{8} y- r[] o[] x{} b0" ∷
+    "= 30" ∷
+    "8 ExchangeStates c3 g4 w2 p2@2{8} a0 v2/1{8}{8} y- r[] o[] x{} b0" ∷
+    "= 31" ∷
+    "fweak 2 6" ∷
+    "= 33" ∷
+    "follower 2 4" ∷
+    "= 34" ∷
+    "8 ExchangeStates c3 g4 w2 p2@2{8} a0 v2/1{8}{8} y- r[] o[] x{} b1" ∷
+    "= 35" ∷
+    "8 NonPrim t3 g4 w2 p2@2{8} a0 v2/1{8}{8} y- r[] o[] x{} b1" ∷
+    "= 36" ∷
+    "8 ExchangeStates c4 g4 w2 p2@2{8} a0 v2/1{8}{8} y- r[] o[] x{} b1" ∷
+    "= 37" ∷
+    "8 NonPrim t4 g4 w2 p2@2{8} a0 v2/1{8}{8} y- r[] o[] x{} b1" ∷
+    "= 38" ∷
+    "8 ExchangeStates c5 g4 w2 p2@2{8} a0 v2/1{8}{8} y- r[] o[] x{} b1" ∷
+    "end 38" ∷
+    [])
+unfolding cases_compute
+generated_follow_over_a_recovery_a = refl
+
 -- Follow: actions are red.
 generated_follow_red_a :
     put_by "follow" (
@@ -321,280 +657,3 @@ generated_follow_struck_feed_a :
     [])
 unfolding cases_compute
 generated_follow_struck_feed_a = refl
-
--- Follow: a follower is struck in a feed; it is asked after its recovery.
-generated_follow_struck_feed_after_a :
-    put_by "follow" (
-    "start 1 2" ∷
-    "merge 1 2" ∷
-    "rounds 3" ∷
-    "gather" ∷
-    "follower 3 2" ∷
-    "rounds 1" ∷
-    "gather" ∷
-    "leave 1 1" ∷
-    "request 2 move \"x\" \"b\" 1 ? get \"y\"" ∷
-    "rounds 2" ∷
-    "request 2 put \"k1\" -9223372036854775808; cas \"k1\" 9223372036854775807 39" ∷
-    "stop 1 0 01" ∷
-    "recover 1" ∷
-    "fstop 3 7 01" ∷
-    "feed 2 3 1" ∷
-    "request 2 need \"y\" absent" ∷
-    "fweak 3 keys \"q\"" ∷
-    "request 2 del \"x\"" ∷
-    "rounds 3" ∷
-    "rounds 2" ∷
-    "feed 1 3 1" ∷
-    "split 2" ∷
-    "merge 1 2" ∷
-    "rounds 1" ∷
-    "gather" ∷
-    "frecover 3" ∷
-    "request 2 put \"a\" \"back\\\\slash\"; need \"z\" 28; need \"b\" 21; move \"ab\" \"b\" 9223372036854775807; put \"a\" 86; inc \"a\" 5; put \"b\" -1; inc \"b\" -3; inc \"y\" 7; cas \"x\" 54 80; move \"y\" \"y\" 0; inc \"ab\" -1; put \"z\" \"v\"; move \"ab\" \"z\" 1; need \"z\" absent; inc \"z\" 6" ∷
-    "feed 2 3 3" ∷
-    "split 1 2" ∷
-    "merge 2" ∷
-    "rounds 2" ∷
-    "request 2 inc \"a\" 5" ∷
-    "split 2" ∷
-    "merge 2" ∷
-    "rounds 4" ∷
-    "fweak 3 count" ∷
-    "feed 2 3 100" ∷
-    "feed 2 3 1" ∷
-    "split 2" ∷
-    "merge 2" ∷
-    "follower 1 2" ∷
-    "split 2" ∷
-    "feed 2 1 1000000" ∷
-    "merge 2" ∷
-    "follower 5 1" ∷
-    "end" ∷
-    [])
-    ≡ written (
-    "= 1" ∷
-    "1 NonPrim - g0 w0 p0@0{1,2} a0 v- y- r[] o[] x{} b0" ∷
-    "2 NonPrim - g0 w0 p0@0{1,2} a0 v- y- r[] o[] x{} b0" ∷
-    "= 2" ∷
-    "1 ExchangeStates c1 g0 w0 p0@0{1,2} a0 v- y- r[] o[] x{} b0" ∷
-    "2 ExchangeStates c1 g0 w0 p0@0{1,2} a0 v- y- r[] o[] x{} b0" ∷
-    "= 4" ∷
-    "1 Construct c1 g0 w0 p0@0{1,2} a1 v1/0{1,2}{1} y- r[] o[] x{} b0" ∷
-    "= 5" ∷
-    "2 Construct c1 g0 w0 p0@0{1,2} a1 v1/0{1,2}{2} y- r[] o[] x{} b0" ∷
-    "= 7" ∷
-    "1 RegPrim c1 g0 w0 p1@1{1,2} a0 v1/0{1,2}{1} y- r[] o[] x{} b0" ∷
-    "= 8" ∷
-    "2 RegPrim c1 g0 w0 p1@1{1,2} a0 v1/0{1,2}{2} y- r[] o[] x{} b0" ∷
-    "= 11" ∷
-    "follower 3 0" ∷
-    "= 14" ∷
-    "made 1:1 leave 1" ∷
-    "1 RegPrim c1 g0 w0 p1@1{1,2} a0 v1/0{1,2}{1} y- r[] o[1:1] x{} b0" ∷
-    "= 15" ∷
-    "made 2:1 move \"x\" \"b\" 1 ? get \"y\"" ∷
-    "2 RegPrim c1 g0 w0 p1@1{1,2} a0 v1/0{1,2}{2} y- r[] o[2:1] x{} b0" ∷
-    "= 17" ∷
-    "order 1 1:1" ∷
-    "order 2 2:1" ∷
-    "1 RegPrim c1 g2 w0 p1@1{1,2} a0 v1/0{1,2}{1} y- r[] o[] x{1} b0" ∷
-    "reply 1:1 done" ∷
-    "= 18" ∷
-    "2 RegPrim c1 g2 w0 p1@1{1,2} a0 v1/0{1,2}{2} y- r[] o[] x{1} b0" ∷
-    "reply 2:1 aborted 1 ? absent" ∷
-    "= 20" ∷
-    "made 2:2 put \"k1\" -9223372036854775808; cas \"k1\" 9223372036854775807 39" ∷
-    "2 RegPrim c1 g2 w0 p1@1{1,2} a0 v1/0{1,2}{2} y- r[] o[2:2] x{1} b0" ∷
-    "= 21" ∷
-    "1 Down" ∷
-    "= 22" ∷
-    "1 NonPrim - g2 w0 p1@1{1,2} a0 v1/0{1,2}{1} y- r[] o[] x{1} b0" ∷
-    "= 24" ∷
-    "follower 3 1" ∷
-    "= 25" ∷
-    "made 2:3 need \"y\" absent" ∷
-    "2 RegPrim c1 g2 w0 p1@1{1,2} a0 v1/0{1,2}{2} y- r[] o[2:2,2:3] x{1} b0" ∷
-    "= 26" ∷
-    "fweak 3 keys" ∷
-    "= 27" ∷
-    "made 2:4 del \"x\"" ∷
-    "2 RegPrim c1 g2 w0 p1@1{1,2} a0 v1/0{1,2}{2} y- r[] o[2:2,2:3,2:4] x{1} b0" ∷
-    "= 33" ∷
-    "follower 3 down" ∷
-    "= 34" ∷
-    "2 TransPrim t1 g2 w0 p1@1{1,2} a0 v1/0{1,2}{2} y?[2:2,2:3,2:4] r[] o[] x{1} b0" ∷
-    "= 35" ∷
-    "1 ExchangeStates c2 g2 w0 p1@1{1,2} a0 v1/0{1,2}{1} y- r[] o[] x{1} b0" ∷
-    "2 ExchangeStates c2 g2 w0 p1@1{1,2} a0 v- y![2:2,2:3,2:4] r[] o[] x{1} b0" ∷
-    "= 37" ∷
-    "1 Left c2 g2 w0 p1@1{1,2} a0 v1/0{1,2}{1} y- r[] o[] x{1} b0" ∷
-    "= 38" ∷
-    "2 NonPrim c2 g2 w0 p1@1{1,2} a0 v- y![2:2,2:3,2:4] r[] o[] x{1} b0" ∷
-    "= 40" ∷
-    "follower 3 2" ∷
-    "= 41" ∷
-    "made 2:5 put \"a\" \"back\\\\slash\"; need \"z\" 28; need \"b\" 21; move \"ab\" \"b\" 9223372036854775807; put \"a\" 86; inc \"a\" 5; put \"b\" -1; inc \"b\" -3; inc \"y\" 7; cas \"x\" 54 80; move \"y\" \"y\" 0; inc \"ab\" -1; put \"z\" \"v\"; move \"ab\" \"z\" 1; need \"z\" absent; inc \"z\" 6" ∷
-    "2 NonPrim c2 g2 w0 p1@1{1,2} a0 v- y![2:2,2:3,2:4] r[] o[2:5] x{1} b0" ∷
-    "= 43" ∷
-    "1 Left t2 g2 w0 p1@1{1,2} a0 v1/0{1,2}{1} y- r[] o[] x{1} b0" ∷
-    "2 NonPrim t2 g2 w0 p1@1{1,2} a0 v- y![2:2,2:3,2:4] r[] o[2:5] x{1} b0" ∷
-    "= 44" ∷
-    "2 ExchangeStates c3 g2 w0 p1@1{1,2} a0 v- y![2:2,2:3,2:4] r[2:5] o[] x{1} b0" ∷
-    "= 46" ∷
-    "2 NonPrim c3 g2 w0 p1@1{1,2} a0 v- y![2:2,2:3,2:4] r[2:5] o[] x{1} b0" ∷
-    "= 48" ∷
-    "made 2:6 inc \"a\" 5" ∷
-    "2 NonPrim c3 g2 w0 p1@1{1,2} a0 v- y![2:2,2:3,2:4] r[2:5] o[2:6] x{1} b0" ∷
-    "= 49" ∷
-    "2 NonPrim t3 g2 w0 p1@1{1,2} a0 v- y![2:2,2:3,2:4] r[2:5] o[2:6] x{1} b0" ∷
-    "= 50" ∷
-    "2 ExchangeStates c4 g2 w0 p1@1{1,2} a0 v- y![2:2,2:3,2:4] r[2:5,2:6] o[] x{1} b0" ∷
-    "= 52" ∷
-    "2 NonPrim c4 g2 w0 p1@1{1,2} a0 v- y![2:2,2:3,2:4] r[2:5,2:6] o[] x{1} b0" ∷
-    "= 56" ∷
-    "fweak 3 count 0" ∷
-    "= 59" ∷
-    "2 NonPrim t4 g2 w0 p1@1{1,2} a0 v- y![2:2,2:3,2:4] r[2:5,2:6] o[] x{1} b0" ∷
-    "= 60" ∷
-    "2 ExchangeStates c5 g2 w0 p1@1{1,2} a0 v- y![2:2,2:3,2:4] r[2:5,2:6] o[] x{1} b0" ∷
-    "= 61" ∷
-    "follower 1 2" ∷
-    "= 62" ∷
-    "2 NonPrim t5 g2 w0 p1@1{1,2} a0 v- y![2:2,2:3,2:4] r[2:5,2:6] o[] x{1} b0" ∷
-    "= 64" ∷
-    "2 ExchangeStates c6 g2 w0 p1@1{1,2} a0 v- y![2:2,2:3,2:4] r[2:5,2:6] o[] x{1} b0" ∷
-    "refused 45 14 1" ∷
-    [])
-unfolding cases_compute
-generated_follow_struck_feed_after_a = refl
-
--- Follow: a follower is struck in a feed; a replica crashes.
-generated_follow_struck_feed_crash_a :
-    put_by "follow" (
-    "start 1" ∷
-    "merge 1" ∷
-    "rounds 3" ∷
-    "show 1" ∷
-    "gather" ∷
-    "gather" ∷
-    "follower 2 1" ∷
-    "request 1 move \"y\" \"abc\" 8" ∷
-    "request 1 put \"a\" \"12\"" ∷
-    "leave 1 1" ∷
-    "rounds 2" ∷
-    "request 1 del \"abc\"" ∷
-    "dirty 1 get \" \"" ∷
-    "stop 1 0 01" ∷
-    "recover 1" ∷
-    "follower 3 1" ∷
-    "merge 1" ∷
-    "order 1" ∷
-    "gather" ∷
-    "split 1" ∷
-    "follower 4 1" ∷
-    "merge 1" ∷
-    "leave 1 1" ∷
-    "rounds 1" ∷
-    "gather" ∷
-    "show 1" ∷
-    "gather" ∷
-    "split 1" ∷
-    "fstop 4 0 000000000000000000" ∷
-    "rounds 2" ∷
-    "show order" ∷
-    "gather" ∷
-    "frecover 4" ∷
-    "# remark" ∷
-    "#" ∷
-    "show order" ∷
-    "show 1" ∷
-    "rounds 3" ∷
-    "gather" ∷
-    "show 1" ∷
-    "fstop 4 4 ff" ∷
-    "show 1" ∷
-    "gather" ∷
-    "fstop 3 5 4347525549545933" ∷
-    "end" ∷
-    [])
-    ≡ written (
-    "= 1" ∷
-    "1 NonPrim - g0 w0 p0@0{1} a0 v- y- r[] o[] x{} b0" ∷
-    "= 2" ∷
-    "1 ExchangeStates c1 g0 w0 p0@0{1} a0 v- y- r[] o[] x{} b0" ∷
-    "= 4" ∷
-    "1 Construct c1 g0 w0 p0@0{1} a1 v1/0{1}{1} y- r[] o[] x{} b0" ∷
-    "= 6" ∷
-    "1 RegPrim c1 g0 w0 p1@1{1} a0 v1/0{1}{1} y- r[] o[] x{} b0" ∷
-    "= 8" ∷
-    "greens 1 []" ∷
-    "db 1" ∷
-    "= 11" ∷
-    "follower 2 0" ∷
-    "= 12" ∷
-    "made 1:1 move \"y\" \"abc\" 8" ∷
-    "1 RegPrim c1 g0 w0 p1@1{1} a0 v1/0{1}{1} y- r[] o[1:1] x{} b0" ∷
-    "= 13" ∷
-    "made 1:2 put \"a\" \"12\"" ∷
-    "1 RegPrim c1 g0 w0 p1@1{1} a0 v1/0{1}{1} y- r[] o[1:1,1:2] x{} b0" ∷
-    "= 14" ∷
-    "made 1:3 leave 1" ∷
-    "1 RegPrim c1 g0 w0 p1@1{1} a0 v1/0{1}{1} y- r[] o[1:1,1:2,1:3] x{} b0" ∷
-    "= 16" ∷
-    "order 1 1:1" ∷
-    "order 2 1:2" ∷
-    "order 3 1:3" ∷
-    "1 RegPrim c1 g3 w0 p1@1{1} a0 v1/0{1}{1} y- r[] o[] x{1} b0" ∷
-    "reply 1:1 aborted 1" ∷
-    "reply 1:2 done" ∷
-    "reply 1:3 done" ∷
-    "= 18" ∷
-    "made 1:4 del \"abc\"" ∷
-    "1 RegPrim c1 g3 w0 p1@1{1} a0 v1/0{1}{1} y- r[] o[1:4] x{1} b0" ∷
-    "= 19" ∷
-    "dirty 1 absent" ∷
-    "= 20" ∷
-    "1 Down" ∷
-    "= 21" ∷
-    "1 NonPrim - g3 w0 p1@1{1} a0 v1/0{1}{1} y- r[1:4] o[] x{1} b0" ∷
-    "= 22" ∷
-    "follower 3 3" ∷
-    "= 23" ∷
-    "1 ExchangeStates c2 g3 w0 p1@1{1} a0 v1/0{1}{1} y- r[1:4] o[] x{1} b0" ∷
-    "= 26" ∷
-    "1 NonPrim t2 g3 w0 p1@1{1} a0 v1/0{1}{1} y- r[1:4] o[] x{1} b0" ∷
-    "= 27" ∷
-    "follower 4 3" ∷
-    "= 28" ∷
-    "1 ExchangeStates c3 g3 w0 p1@1{1} a0 v1/0{1}{1} y- r[1:4] o[] x{1} b0" ∷
-    "= 29" ∷
-    "1 ExchangeStates c3 g3 w0 p1@1{1} a0 v1/0{1}{1} y- r[1:4] o[] x{1} b1" ∷
-    "= 31" ∷
-    "1 Left c3 g3 w0 p1@1{1} a0 v1/0{1}{1} y- r[1:4] o[] x{1} b0" ∷
-    "= 33" ∷
-    "greens 1 [1:1,1:2,1:3]" ∷
-    "db 1 \"a\"=\"12\"" ∷
-    "= 35" ∷
-    "1 Left t3 g3 w0 p1@1{1} a0 v1/0{1}{1} y- r[1:4] o[] x{1} b0" ∷
-    "= 36" ∷
-    "follower 4 down" ∷
-    "= 39" ∷
-    "all [1:1,1:2,1:3]" ∷
-    "= 41" ∷
-    "follower 4 3" ∷
-    "= 42" ∷
-    "all [1:1,1:2,1:3]" ∷
-    "= 43" ∷
-    "greens 1 [1:1,1:2,1:3]" ∷
-    "db 1 \"a\"=\"12\"" ∷
-    "= 48" ∷
-    "greens 1 [1:1,1:2,1:3]" ∷
-    "db 1 \"a\"=\"12\"" ∷
-    "= 50" ∷
-    "greens 1 [1:1,1:2,1:3]" ∷
-    "db 1 \"a\"=\"12\"" ∷
-    "end 52" ∷
-    [])
-unfolding cases_compute
-generated_follow_struck_feed_crash_a = refl

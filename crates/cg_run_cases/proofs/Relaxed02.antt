@@ -83,6 +83,163 @@ generated_relaxed_red_a :
 unfolding cases_compute
 generated_relaxed_red_a = refl
 
+-- Relaxed: actions are red; a replica crashes.
+generated_relaxed_red_crash_a :
+    put_by "relaxed" (
+    "start 2 14 15 17" ∷
+    "merge 2 14 15 17" ∷
+    "rounds 2" ∷
+    "gather" ∷
+    "stop 15 0 ffffffffff" ∷
+    "request 2 put \"y\" 9223372036854775806; need \"x\" \"\"; inc \"x\" 2; put \"z\" 85; put \"z\" 22; inc \"z\" 11; del \"abc\"; inc \"z\" 8; need \"b\" 95; put \"z\" 70; inc \"x\" 9223372036854775807; cas \"z\" absent 58; put \"y\" 93; cas \"y\" 0 48; need \"x\" 34; move \"z\" \"y\" 4" ∷
+    "request 14 put \"a\" 91" ∷
+    "joined 14 2 \"y\"" ∷
+    "downgrade 15" ∷
+    "recover 15" ∷
+    "relaxed 15 \"a\"" ∷
+    "merge 15" ∷
+    "gather" ∷
+    "deliver 15 1" ∷
+    "joined 2 15 \"x\"" ∷
+    "joined 2 2 \"a\"" ∷
+    "request 15 inc \"z\" 8; move \"a\" \"a\" 5; del \"b\"; del \"x\"" ∷
+    "leave 14 17" ∷
+    "request 15 cas \"a\" absent \"; ? #\" ? get \"b\"" ∷
+    "split 17" ∷
+    "split 2 14" ∷
+    "split 15" ∷
+    "merge 2 14 15 17" ∷
+    "rounds 2" ∷
+    "gather" ∷
+    "rounds 2" ∷
+    "joined 2 15 \"a\"" ∷
+    "fail 14 5" ∷
+    "joined 2 17 \"y\"" ∷
+    "relaxed 2 \"x\"" ∷
+    "relaxed 14 \"a\"" ∷
+    "stop 15 16 00" ∷
+    "gather" ∷
+    "joined 17 2 \"b\"" ∷
+    "gather" ∷
+    "request 14 inc \"y\" 6; inc \"y\" 7; move \"a\" \"k2\" 9223372036854775807; inc \"b\" -2" ∷
+    "deliver 2 3" ∷
+    "stop 17 15 01" ∷
+    "joined 14 17 \"ab\"" ∷
+    "end" ∷
+    [])
+    ≡ written (
+    "= 1" ∷
+    "2 NonPrim - g0 w0 p0@0{2,14,15,17} a0 v- y- r[] o[] x{} b0" ∷
+    "14 NonPrim - g0 w0 p0@0{2,14,15,17} a0 v- y- r[] o[] x{} b0" ∷
+    "15 NonPrim - g0 w0 p0@0{2,14,15,17} a0 v- y- r[] o[] x{} b0" ∷
+    "17 NonPrim - g0 w0 p0@0{2,14,15,17} a0 v- y- r[] o[] x{} b0" ∷
+    "= 2" ∷
+    "2 ExchangeStates c1 g0 w0 p0@0{2,14,15,17} a0 v- y- r[] o[] x{} b0" ∷
+    "14 ExchangeStates c1 g0 w0 p0@0{2,14,15,17} a0 v- y- r[] o[] x{} b0" ∷
+    "15 ExchangeStates c1 g0 w0 p0@0{2,14,15,17} a0 v- y- r[] o[] x{} b0" ∷
+    "17 ExchangeStates c1 g0 w0 p0@0{2,14,15,17} a0 v- y- r[] o[] x{} b0" ∷
+    "= 4" ∷
+    "2 Construct c1 g0 w0 p0@0{2,14,15,17} a1 v1/0{2,14,15,17}{2} y- r[] o[] x{} b0" ∷
+    "= 5" ∷
+    "14 Construct c1 g0 w0 p0@0{2,14,15,17} a1 v1/0{2,14,15,17}{14} y- r[] o[] x{} b0" ∷
+    "= 6" ∷
+    "15 Construct c1 g0 w0 p0@0{2,14,15,17} a1 v1/0{2,14,15,17}{15} y- r[] o[] x{} b0" ∷
+    "= 7" ∷
+    "17 Construct c1 g0 w0 p0@0{2,14,15,17} a1 v1/0{2,14,15,17}{17} y- r[] o[] x{} b0" ∷
+    "= 9" ∷
+    "2 RegPrim c1 g0 w0 p1@1{2,14,15,17} a0 v1/0{2,14,15,17}{2} y- r[] o[] x{} b0" ∷
+    "= 10" ∷
+    "14 RegPrim c1 g0 w0 p1@1{2,14,15,17} a0 v1/0{2,14,15,17}{14} y- r[] o[] x{} b0" ∷
+    "= 11" ∷
+    "15 RegPrim c1 g0 w0 p1@1{2,14,15,17} a0 v1/0{2,14,15,17}{15} y- r[] o[] x{} b0" ∷
+    "= 12" ∷
+    "17 RegPrim c1 g0 w0 p1@1{2,14,15,17} a0 v1/0{2,14,15,17}{17} y- r[] o[] x{} b0" ∷
+    "= 14" ∷
+    "15 Down" ∷
+    "= 15" ∷
+    "made 2:1 put \"y\" 9223372036854775806; need \"x\" \"\"; inc \"x\" 2; put \"z\" 85; put \"z\" 22; inc \"z\" 11; del \"abc\"; inc \"z\" 8; need \"b\" 95; put \"z\" 70; inc \"x\" 9223372036854775807; cas \"z\" absent 58; put \"y\" 93; cas \"y\" 0 48; need \"x\" 34; move \"z\" \"y\" 4" ∷
+    "2 RegPrim c1 g0 w0 p1@1{2,14,15,17} a0 v1/0{2,14,15,17}{2} y- r[] o[2:1] x{} b0" ∷
+    "= 16" ∷
+    "made 14:1 put \"a\" 91" ∷
+    "14 RegPrim c1 g0 w0 p1@1{2,14,15,17} a0 v1/0{2,14,15,17}{14} y- r[] o[14:1] x{} b0" ∷
+    "= 17" ∷
+    "joined 14 2 absent 0" ∷
+    "= 19" ∷
+    "15 NonPrim - g0 w0 p1@1{2,14,15,17} a0 v1/0{2,14,15,17}{15} y- r[] o[] x{} b0" ∷
+    "= 20" ∷
+    "relaxed 15 absent 0" ∷
+    "= 21" ∷
+    "15 ExchangeStates c2 g0 w0 p1@1{2,14,15,17} a0 v1/0{2,14,15,17}{15} y- r[] o[] x{} b0" ∷
+    "= 23" ∷
+    "15 NonPrim c2 g0 w0 p1@1{2,14,15,17} a0 v1/0{2,14,15,17}{15} y- r[] o[] x{} b0" ∷
+    "= 24" ∷
+    "joined 2 15 absent 0" ∷
+    "= 25" ∷
+    "joined 2 2 absent 0" ∷
+    "= 26" ∷
+    "made 15:1 inc \"z\" 8; move \"a\" \"a\" 5; del \"b\"; del \"x\"" ∷
+    "15 NonPrim c2 g0 w0 p1@1{2,14,15,17} a0 v1/0{2,14,15,17}{15} y- r[] o[15:1] x{} b0" ∷
+    "= 27" ∷
+    "made 14:2 leave 17" ∷
+    "14 RegPrim c1 g0 w0 p1@1{2,14,15,17} a0 v1/0{2,14,15,17}{14} y- r[] o[14:1,14:2] x{} b0" ∷
+    "= 28" ∷
+    "made 15:2 cas \"a\" absent \"; ? #\" ? get \"b\"" ∷
+    "15 NonPrim c2 g0 w0 p1@1{2,14,15,17} a0 v1/0{2,14,15,17}{15} y- r[] o[15:1,15:2] x{} b0" ∷
+    "= 29" ∷
+    "17 TransPrim t1 g0 w0 p1@1{2,14,15,17} a0 v1/0{2,14,15,17}{17} y?[2:1,14:1] r[] o[] x{} b0" ∷
+    "= 30" ∷
+    "2 TransPrim t1 g0 w0 p1@1{2,14,15,17} a0 v1/0{2,14,15,17}{2} y?[2:1,14:1] r[] o[] x{} b0" ∷
+    "14 TransPrim t1 g0 w0 p1@1{2,14,15,17} a0 v1/0{2,14,15,17}{14} y?[2:1,14:1] r[] o[14:2] x{} b0" ∷
+    "= 31" ∷
+    "15 NonPrim t2 g0 w0 p1@1{2,14,15,17} a0 v1/0{2,14,15,17}{15} y- r[] o[15:1,15:2] x{} b0" ∷
+    "= 32" ∷
+    "2 ExchangeStates c3 g0 w0 p1@1{2,14,15,17} a0 v- y![2:1,14:1] r[] o[] x{} b0" ∷
+    "14 ExchangeStates c3 g0 w0 p1@1{2,14,15,17} a0 v- y![2:1,14:1] r[14:2] o[] x{} b0" ∷
+    "15 ExchangeStates c3 g0 w0 p1@1{2,14,15,17} a0 v1/0{2,14,15,17}{15} y- r[15:1,15:2] o[] x{} b0" ∷
+    "17 ExchangeStates c3 g0 w0 p1@1{2,14,15,17} a0 v- y![2:1,14:1] r[] o[] x{} b0" ∷
+    "= 34" ∷
+    "2 ExchangeActions c3 g0 w0 p1@1{2,14,15,17} a0 v- y![2:1,14:1] r[] o[] x{} b0" ∷
+    "= 35" ∷
+    "14 ExchangeActions c3 g0 w0 p1@1{2,14,15,17} a0 v- y![2:1,14:1] r[14:2] o[] x{} b0" ∷
+    "= 36" ∷
+    "15 ExchangeActions c3 g0 w0 p1@1{2,14,15,17} a0 v1/0{2,14,15,17}{15} y- r[15:1,15:2] o[] x{} b0" ∷
+    "= 37" ∷
+    "17 ExchangeActions c3 g0 w0 p1@1{2,14,15,17} a0 v- y![2:1,14:1] r[] o[] x{} b0" ∷
+    "= 41" ∷
+    "15 ExchangeActions c3 g0 w0 p1@1{2,14,15,17} a0 v1/0{2,14,15,17}{15} y- r[2:1,15:1,15:2] o[] x{} b0" ∷
+    "= 45" ∷
+    "2 ExchangeActions c3 g0 w0 p1@1{2,14,15,17} a0 v- y![2:1,14:1] r[14:2] o[] x{} b0" ∷
+    "= 47" ∷
+    "15 ExchangeActions c3 g0 w0 p1@1{2,14,15,17} a0 v1/0{2,14,15,17}{15} y- r[2:1,14:1,14:2,15:1,15:2] o[] x{} b0" ∷
+    "= 48" ∷
+    "17 ExchangeActions c3 g0 w0 p1@1{2,14,15,17} a0 v- y![2:1,14:1] r[14:2] o[] x{} b0" ∷
+    "= 50" ∷
+    "2 Construct c3 g0 w0 p1@1{2,14,15,17} a1 v3/1{2,14,15,17}{2} y![2:1,14:1] r[14:2,15:1,15:2] o[] x{} b0" ∷
+    "= 51" ∷
+    "14 Construct c3 g0 w0 p1@1{2,14,15,17} a1 v3/1{2,14,15,17}{14} y![2:1,14:1] r[14:2,15:1,15:2] o[] x{} b0" ∷
+    "= 52" ∷
+    "15 Construct c3 g0 w0 p1@1{2,14,15,17} a1 v3/1{2,14,15,17}{15} y![2:1,14:1] r[14:2,15:1,15:2] o[] x{} b0" ∷
+    "= 53" ∷
+    "17 Construct c3 g0 w0 p1@1{2,14,15,17} a1 v3/1{2,14,15,17}{17} y![2:1,14:1] r[14:2,15:1,15:2] o[] x{} b0" ∷
+    "= 54" ∷
+    "joined 2 15 91 0" ∷
+    "= 56" ∷
+    "joined 2 17 absent 0" ∷
+    "= 57" ∷
+    "relaxed 2 absent 0" ∷
+    "= 58" ∷
+    "relaxed 14 91 0" ∷
+    "= 61" ∷
+    "joined 17 2 absent 0" ∷
+    "= 63" ∷
+    "14 Construct c3 g0 w0 p1@1{2,14,15,17} a1 v3/1{2,14,15,17}{14} y![2:1,14:1] r[14:2,15:1,15:2] o[] x{} b1" ∷
+    "= 66" ∷
+    "joined 14 17 absent 0" ∷
+    "end 66" ∷
+    [])
+unfolding cases_compute
+generated_relaxed_red_crash_a = refl
+
 -- Relaxed: the last event is refused.
 generated_relaxed_refused_a :
     put_by "relaxed" (
@@ -524,226 +681,3 @@ relaxed_aborted_updates_count :
     [])
 unfolding cases_compute
 relaxed_aborted_updates_count = refl
-
--- A replica that was told that it left still tells what it knows.
-relaxed_at_a_leaver :
-    put_by "relaxed" (
-    "start 1 2 3" ∷
-    "merge 1 2 3" ∷
-    "rounds 2" ∷
-    "split 1 2" ∷
-    "split 3" ∷
-    "merge 1 2" ∷
-    "merge 3" ∷
-    "rounds 2" ∷
-    "leave 1 3" ∷
-    "rounds 1" ∷
-    "request 3 inc \"x\" 3" ∷
-    "split 1 2" ∷
-    "split 3" ∷
-    "merge 1 2 3" ∷
-    "rounds 3" ∷
-    "relaxed 3 \"x\"" ∷
-    "relaxed 1 \"x\"" ∷
-    "joined 1 3 \"x\"" ∷
-    "end" ∷
-    [])
-    ≡ written (
-    "= 1" ∷
-    "1 NonPrim - g0 w0 p0@0{1,2,3} a0 v- y- r[] o[] x{} b0" ∷
-    "2 NonPrim - g0 w0 p0@0{1,2,3} a0 v- y- r[] o[] x{} b0" ∷
-    "3 NonPrim - g0 w0 p0@0{1,2,3} a0 v- y- r[] o[] x{} b0" ∷
-    "= 2" ∷
-    "1 ExchangeStates c1 g0 w0 p0@0{1,2,3} a0 v- y- r[] o[] x{} b0" ∷
-    "2 ExchangeStates c1 g0 w0 p0@0{1,2,3} a0 v- y- r[] o[] x{} b0" ∷
-    "3 ExchangeStates c1 g0 w0 p0@0{1,2,3} a0 v- y- r[] o[] x{} b0" ∷
-    "= 4" ∷
-    "1 Construct c1 g0 w0 p0@0{1,2,3} a1 v1/0{1,2,3}{1} y- r[] o[] x{} b0" ∷
-    "= 5" ∷
-    "2 Construct c1 g0 w0 p0@0{1,2,3} a1 v1/0{1,2,3}{2} y- r[] o[] x{} b0" ∷
-    "= 6" ∷
-    "3 Construct c1 g0 w0 p0@0{1,2,3} a1 v1/0{1,2,3}{3} y- r[] o[] x{} b0" ∷
-    "= 8" ∷
-    "1 RegPrim c1 g0 w0 p1@1{1,2,3} a0 v1/0{1,2,3}{1} y- r[] o[] x{} b0" ∷
-    "= 9" ∷
-    "2 RegPrim c1 g0 w0 p1@1{1,2,3} a0 v1/0{1,2,3}{2} y- r[] o[] x{} b0" ∷
-    "= 10" ∷
-    "3 RegPrim c1 g0 w0 p1@1{1,2,3} a0 v1/0{1,2,3}{3} y- r[] o[] x{} b0" ∷
-    "= 11" ∷
-    "1 TransPrim t1 g0 w0 p1@1{1,2,3} a0 v1/0{1,2,3}{1} y- r[] o[] x{} b0" ∷
-    "2 TransPrim t1 g0 w0 p1@1{1,2,3} a0 v1/0{1,2,3}{2} y- r[] o[] x{} b0" ∷
-    "= 12" ∷
-    "3 TransPrim t1 g0 w0 p1@1{1,2,3} a0 v1/0{1,2,3}{3} y- r[] o[] x{} b0" ∷
-    "= 13" ∷
-    "1 ExchangeStates c2 g0 w0 p1@1{1,2,3} a0 v- y![] r[] o[] x{} b0" ∷
-    "2 ExchangeStates c2 g0 w0 p1@1{1,2,3} a0 v- y![] r[] o[] x{} b0" ∷
-    "= 14" ∷
-    "3 ExchangeStates c3 g0 w0 p1@1{1,2,3} a0 v- y![] r[] o[] x{} b0" ∷
-    "= 16" ∷
-    "1 Construct c2 g0 w0 p1@1{1,2,3} a1 v2/1{1,2}{1} y![] r[] o[] x{} b0" ∷
-    "= 17" ∷
-    "2 Construct c2 g0 w0 p1@1{1,2,3} a1 v2/1{1,2}{2} y![] r[] o[] x{} b0" ∷
-    "= 18" ∷
-    "3 NonPrim c3 g0 w0 p1@1{1,2,3} a0 v- y![] r[] o[] x{} b0" ∷
-    "= 20" ∷
-    "1 RegPrim c2 g0 w0 p2@2{1,2} a0 v2/1{1,2}{1} y- r[] o[] x{} b0" ∷
-    "= 21" ∷
-    "2 RegPrim c2 g0 w0 p2@2{1,2} a0 v2/1{1,2}{2} y- r[] o[] x{} b0" ∷
-    "= 22" ∷
-    "made 1:1 leave 3" ∷
-    "1 RegPrim c2 g0 w0 p2@2{1,2} a0 v2/1{1,2}{1} y- r[] o[1:1] x{} b0" ∷
-    "= 24" ∷
-    "order 1 1:1" ∷
-    "1 RegPrim c2 g1 w0 p2@2{1,2} a0 v2/1{1,2}{1} y- r[] o[] x{3} b0" ∷
-    "reply 1:1 done" ∷
-    "= 25" ∷
-    "2 RegPrim c2 g1 w0 p2@2{1,2} a0 v2/1{1,2}{2} y- r[] o[] x{3} b0" ∷
-    "= 26" ∷
-    "made 3:1 inc \"x\" 3" ∷
-    "3 NonPrim c3 g0 w0 p1@1{1,2,3} a0 v- y![] r[] o[3:1] x{} b0" ∷
-    "= 27" ∷
-    "1 TransPrim t2 g1 w0 p2@2{1,2} a0 v2/1{1,2}{1} y- r[] o[] x{3} b0" ∷
-    "2 TransPrim t2 g1 w0 p2@2{1,2} a0 v2/1{1,2}{2} y- r[] o[] x{3} b0" ∷
-    "= 28" ∷
-    "3 NonPrim t3 g0 w0 p1@1{1,2,3} a0 v- y![] r[] o[3:1] x{} b0" ∷
-    "= 29" ∷
-    "1 ExchangeStates c4 g1 w0 p2@2{1,2} a0 v- y![] r[] o[] x{3} b0" ∷
-    "2 ExchangeStates c4 g1 w0 p2@2{1,2} a0 v- y![] r[] o[] x{3} b0" ∷
-    "3 ExchangeStates c4 g0 w0 p1@1{1,2,3} a0 v- y![] r[3:1] o[] x{} b0" ∷
-    "= 31" ∷
-    "1 ExchangeActions c4 g1 w0 p2@2{1,2} a0 v- y![] r[] o[] x{3} b0" ∷
-    "= 32" ∷
-    "2 ExchangeActions c4 g1 w0 p2@2{1,2} a0 v- y![] r[] o[] x{3} b0" ∷
-    "= 33" ∷
-    "3 ExchangeActions c4 g0 w0 p1@1{1,2,3} a0 v- y![] r[3:1] o[] x{} b0" ∷
-    "= 35" ∷
-    "1 Construct c4 g1 w0 p2@2{1,2} a1 v4/2{1,2}{1} y![] r[3:1] o[] x{3} b0" ∷
-    "= 36" ∷
-    "2 Construct c4 g1 w0 p2@2{1,2} a1 v4/2{1,2}{2} y![] r[3:1] o[] x{3} b0" ∷
-    "= 37" ∷
-    "3 Left c4 g0 w0 p1@1{1,2,3} a0 v- y![] r[3:1] o[] x{} b0" ∷
-    "= 39" ∷
-    "order 2 3:1" ∷
-    "1 RegPrim c4 g2 w0 p3@4{1,2} a0 v4/2{1,2}{1} y- r[] o[] x{3} b0" ∷
-    "= 40" ∷
-    "2 RegPrim c4 g2 w0 p3@4{1,2} a0 v4/2{1,2}{2} y- r[] o[] x{3} b0" ∷
-    "= 42" ∷
-    "relaxed 3 absent 3" ∷
-    "= 43" ∷
-    "relaxed 1 absent 3" ∷
-    "= 44" ∷
-    "joined 1 3 absent 3" ∷
-    "end 44" ∷
-    [])
-unfolding cases_compute
-relaxed_at_a_leaver = refl
-
--- Red marks that no commit had written are lost at a crash, and the sum and the register fall with them.
-relaxed_cut_falls_at_a_crash :
-    put_by "relaxed" (
-    "start 1 2 3" ∷
-    "merge 1 2 3" ∷
-    "rounds 2" ∷
-    "split 1" ∷
-    "split 2 3" ∷
-    "merge 1" ∷
-    "merge 2 3" ∷
-    "rounds 2" ∷
-    "request 1 inc \"x\" 1" ∷
-    "request 1 put \"x\" \"a\"" ∷
-    "rounds 1" ∷
-    "relaxed 1 \"x\"" ∷
-    "split 1" ∷
-    "merge 1" ∷
-    "split 2 3" ∷
-    "rounds 1" ∷
-    "merge 2 3" ∷
-    "rounds 1" ∷
-    "relaxed 1 \"x\"" ∷
-    "stop 1 0 -" ∷
-    "recover 1" ∷
-    "relaxed 1 \"x\"" ∷
-    "joined 1 2 \"x\"" ∷
-    "end" ∷
-    [])
-    ≡ written (
-    "= 1" ∷
-    "1 NonPrim - g0 w0 p0@0{1,2,3} a0 v- y- r[] o[] x{} b0" ∷
-    "2 NonPrim - g0 w0 p0@0{1,2,3} a0 v- y- r[] o[] x{} b0" ∷
-    "3 NonPrim - g0 w0 p0@0{1,2,3} a0 v- y- r[] o[] x{} b0" ∷
-    "= 2" ∷
-    "1 ExchangeStates c1 g0 w0 p0@0{1,2,3} a0 v- y- r[] o[] x{} b0" ∷
-    "2 ExchangeStates c1 g0 w0 p0@0{1,2,3} a0 v- y- r[] o[] x{} b0" ∷
-    "3 ExchangeStates c1 g0 w0 p0@0{1,2,3} a0 v- y- r[] o[] x{} b0" ∷
-    "= 4" ∷
-    "1 Construct c1 g0 w0 p0@0{1,2,3} a1 v1/0{1,2,3}{1} y- r[] o[] x{} b0" ∷
-    "= 5" ∷
-    "2 Construct c1 g0 w0 p0@0{1,2,3} a1 v1/0{1,2,3}{2} y- r[] o[] x{} b0" ∷
-    "= 6" ∷
-    "3 Construct c1 g0 w0 p0@0{1,2,3} a1 v1/0{1,2,3}{3} y- r[] o[] x{} b0" ∷
-    "= 8" ∷
-    "1 RegPrim c1 g0 w0 p1@1{1,2,3} a0 v1/0{1,2,3}{1} y- r[] o[] x{} b0" ∷
-    "= 9" ∷
-    "2 RegPrim c1 g0 w0 p1@1{1,2,3} a0 v1/0{1,2,3}{2} y- r[] o[] x{} b0" ∷
-    "= 10" ∷
-    "3 RegPrim c1 g0 w0 p1@1{1,2,3} a0 v1/0{1,2,3}{3} y- r[] o[] x{} b0" ∷
-    "= 11" ∷
-    "1 TransPrim t1 g0 w0 p1@1{1,2,3} a0 v1/0{1,2,3}{1} y- r[] o[] x{} b0" ∷
-    "= 12" ∷
-    "2 TransPrim t1 g0 w0 p1@1{1,2,3} a0 v1/0{1,2,3}{2} y- r[] o[] x{} b0" ∷
-    "3 TransPrim t1 g0 w0 p1@1{1,2,3} a0 v1/0{1,2,3}{3} y- r[] o[] x{} b0" ∷
-    "= 13" ∷
-    "1 ExchangeStates c2 g0 w0 p1@1{1,2,3} a0 v- y![] r[] o[] x{} b0" ∷
-    "= 14" ∷
-    "2 ExchangeStates c3 g0 w0 p1@1{1,2,3} a0 v- y![] r[] o[] x{} b0" ∷
-    "3 ExchangeStates c3 g0 w0 p1@1{1,2,3} a0 v- y![] r[] o[] x{} b0" ∷
-    "= 16" ∷
-    "1 NonPrim c2 g0 w0 p1@1{1,2,3} a0 v- y![] r[] o[] x{} b0" ∷
-    "= 17" ∷
-    "2 Construct c3 g0 w0 p1@1{1,2,3} a1 v3/1{2,3}{2} y![] r[] o[] x{} b0" ∷
-    "= 18" ∷
-    "3 Construct c3 g0 w0 p1@1{1,2,3} a1 v3/1{2,3}{3} y![] r[] o[] x{} b0" ∷
-    "= 20" ∷
-    "2 RegPrim c3 g0 w0 p2@3{2,3} a0 v3/1{2,3}{2} y- r[] o[] x{} b0" ∷
-    "= 21" ∷
-    "3 RegPrim c3 g0 w0 p2@3{2,3} a0 v3/1{2,3}{3} y- r[] o[] x{} b0" ∷
-    "= 22" ∷
-    "made 1:1 inc \"x\" 1" ∷
-    "1 NonPrim c2 g0 w0 p1@1{1,2,3} a0 v- y![] r[] o[1:1] x{} b0" ∷
-    "= 23" ∷
-    "made 1:2 put \"x\" \"a\"" ∷
-    "1 NonPrim c2 g0 w0 p1@1{1,2,3} a0 v- y![] r[] o[1:1,1:2] x{} b0" ∷
-    "= 25" ∷
-    "1 NonPrim c2 g0 w0 p1@1{1,2,3} a0 v- y![] r[1:1,1:2] o[] x{} b0" ∷
-    "= 26" ∷
-    "relaxed 1 \"a\" 1" ∷
-    "= 27" ∷
-    "1 NonPrim t2 g0 w0 p1@1{1,2,3} a0 v- y![] r[1:1,1:2] o[] x{} b0" ∷
-    "= 28" ∷
-    "1 ExchangeStates c4 g0 w0 p1@1{1,2,3} a0 v- y![] r[1:1,1:2] o[] x{} b0" ∷
-    "= 29" ∷
-    "2 TransPrim t3 g0 w0 p2@3{2,3} a0 v3/1{2,3}{2} y- r[] o[] x{} b0" ∷
-    "3 TransPrim t3 g0 w0 p2@3{2,3} a0 v3/1{2,3}{3} y- r[] o[] x{} b0" ∷
-    "= 31" ∷
-    "1 NonPrim c4 g0 w0 p1@1{1,2,3} a0 v- y![] r[1:1,1:2] o[] x{} b0" ∷
-    "= 32" ∷
-    "2 ExchangeStates c5 g0 w0 p2@3{2,3} a0 v- y![] r[] o[] x{} b0" ∷
-    "3 ExchangeStates c5 g0 w0 p2@3{2,3} a0 v- y![] r[] o[] x{} b0" ∷
-    "= 34" ∷
-    "2 Construct c5 g0 w0 p2@3{2,3} a1 v5/2{2,3}{2} y![] r[] o[] x{} b0" ∷
-    "= 35" ∷
-    "3 Construct c5 g0 w0 p2@3{2,3} a1 v5/2{2,3}{3} y![] r[] o[] x{} b0" ∷
-    "= 36" ∷
-    "relaxed 1 \"a\" 1" ∷
-    "= 37" ∷
-    "1 Down" ∷
-    "= 38" ∷
-    "1 NonPrim - g0 w0 p1@1{1,2,3} a0 v- y![] r[1:1,1:2] o[] x{} b0" ∷
-    "= 39" ∷
-    "relaxed 1 \"a\" 1" ∷
-    "= 40" ∷
-    "joined 1 2 \"a\" 1" ∷
-    "end 40" ∷
-    [])
-unfolding cases_compute
-relaxed_cut_falls_at_a_crash = refl

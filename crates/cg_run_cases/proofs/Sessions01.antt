@@ -312,6 +312,145 @@ generated_sessions_at_red_a :
 unfolding cases_compute
 generated_sessions_at_red_a = refl
 
+-- Sessions: a replica is behind the token.
+generated_sessions_behind_a :
+    put_by "sessions" (
+    "start 14 17 29 32" ∷
+    "merge 14 17 29 32" ∷
+    "rounds 2" ∷
+    "stop 29 1 4347525549545933" ∷
+    "session 1" ∷
+    "request 14 need \"z\" 40; put \"y\" 1" ∷
+    "request 29 cas \"y\" 93 90" ∷
+    "request 17 inc \"a\" 0 ? keys \"k\"" ∷
+    "rounds 3" ∷
+    "join 32 1*5" ∷
+    "swrite 1 17 inc \"x\" 7" ∷
+    "recover 29 4 0000000000000000000000000000000000000000" ∷
+    "recover 29" ∷
+    "join 14 2*5" ∷
+    "order 14" ∷
+    "stop 29 10 0101010101" ∷
+    "split 32" ∷
+    "split 14 17" ∷
+    "merge 32" ∷
+    "merge 14 17" ∷
+    "sweak 1 29 get \"ab\"" ∷
+    "rounds 2" ∷
+    "gather" ∷
+    "deliver 17 2" ∷
+    "deliver 14 1" ∷
+    "gather" ∷
+    "gather" ∷
+    "gather" ∷
+    "split 14" ∷
+    "stop 29 3 010101f2014c0001010010010101" ∷
+    "merge 14 29" ∷
+    "rounds 1" ∷
+    "sweak 1 32 keys \"k\"" ∷
+    "rounds 2" ∷
+    "end" ∷
+    [])
+    ≡ written (
+    "= 1" ∷
+    "14 NonPrim - g0 w0 p0@0{14,17,29,32} a0 v- y- r[] o[] x{} b0" ∷
+    "17 NonPrim - g0 w0 p0@0{14,17,29,32} a0 v- y- r[] o[] x{} b0" ∷
+    "29 NonPrim - g0 w0 p0@0{14,17,29,32} a0 v- y- r[] o[] x{} b0" ∷
+    "32 NonPrim - g0 w0 p0@0{14,17,29,32} a0 v- y- r[] o[] x{} b0" ∷
+    "= 2" ∷
+    "14 ExchangeStates c1 g0 w0 p0@0{14,17,29,32} a0 v- y- r[] o[] x{} b0" ∷
+    "17 ExchangeStates c1 g0 w0 p0@0{14,17,29,32} a0 v- y- r[] o[] x{} b0" ∷
+    "29 ExchangeStates c1 g0 w0 p0@0{14,17,29,32} a0 v- y- r[] o[] x{} b0" ∷
+    "32 ExchangeStates c1 g0 w0 p0@0{14,17,29,32} a0 v- y- r[] o[] x{} b0" ∷
+    "= 4" ∷
+    "14 Construct c1 g0 w0 p0@0{14,17,29,32} a1 v1/0{14,17,29,32}{14} y- r[] o[] x{} b0" ∷
+    "= 5" ∷
+    "17 Construct c1 g0 w0 p0@0{14,17,29,32} a1 v1/0{14,17,29,32}{17} y- r[] o[] x{} b0" ∷
+    "= 6" ∷
+    "29 Construct c1 g0 w0 p0@0{14,17,29,32} a1 v1/0{14,17,29,32}{29} y- r[] o[] x{} b0" ∷
+    "= 7" ∷
+    "32 Construct c1 g0 w0 p0@0{14,17,29,32} a1 v1/0{14,17,29,32}{32} y- r[] o[] x{} b0" ∷
+    "= 9" ∷
+    "14 RegPrim c1 g0 w0 p1@1{14,17,29,32} a0 v1/0{14,17,29,32}{14} y- r[] o[] x{} b0" ∷
+    "= 10" ∷
+    "17 RegPrim c1 g0 w0 p1@1{14,17,29,32} a0 v1/0{14,17,29,32}{17} y- r[] o[] x{} b0" ∷
+    "= 11" ∷
+    "29 RegPrim c1 g0 w0 p1@1{14,17,29,32} a0 v1/0{14,17,29,32}{29} y- r[] o[] x{} b0" ∷
+    "= 12" ∷
+    "32 RegPrim c1 g0 w0 p1@1{14,17,29,32} a0 v1/0{14,17,29,32}{32} y- r[] o[] x{} b0" ∷
+    "= 15" ∷
+    "made 14:1 need \"z\" 40; put \"y\" 1" ∷
+    "14 RegPrim c1 g0 w0 p1@1{14,17,29,32} a0 v1/0{14,17,29,32}{14} y- r[] o[14:1] x{} b0" ∷
+    "= 16" ∷
+    "29 Down" ∷
+    "= 17" ∷
+    "made 17:1 inc \"a\" 0 ? keys \"k\"" ∷
+    "17 RegPrim c1 g0 w0 p1@1{14,17,29,32} a0 v1/0{14,17,29,32}{17} y- r[] o[17:1] x{} b0" ∷
+    "= 21" ∷
+    "made 32:1 join 1*5" ∷
+    "32 RegPrim c1 g0 w0 p1@1{14,17,29,32} a0 v1/0{14,17,29,32}{32} y- r[] o[32:1] x{} b0" ∷
+    "= 22" ∷
+    "made 17:2 inc \"x\" 7" ∷
+    "17 RegPrim c1 g0 w0 p1@1{14,17,29,32} a0 v1/0{14,17,29,32}{17} y- r[] o[17:1,17:2] x{} b0" ∷
+    "session 1 wrote 17:2" ∷
+    "= 24" ∷
+    "29 NonPrim - g0 w0 p1@1{14,17,29,32} a0 v1/0{14,17,29,32}{29} y- r[] o[] x{} b0" ∷
+    "= 25" ∷
+    "made 14:2 join 2*5" ∷
+    "14 RegPrim c1 g0 w0 p1@1{14,17,29,32} a0 v1/0{14,17,29,32}{14} y- r[] o[14:1,14:2] x{} b0" ∷
+    "= 28" ∷
+    "32 TransPrim t1 g0 w0 p1@1{14,17,29,32} a0 v1/0{14,17,29,32}{32} y?[14:1,17:1] r[] o[32:1] x{} b0" ∷
+    "= 29" ∷
+    "14 TransPrim t1 g0 w0 p1@1{14,17,29,32} a0 v1/0{14,17,29,32}{14} y?[14:1,17:1,14:2] r[] o[] x{} b0" ∷
+    "17 TransPrim t1 g0 w0 p1@1{14,17,29,32} a0 v1/0{14,17,29,32}{17} y?[14:1,17:1,14:2] r[] o[17:2] x{} b0" ∷
+    "= 30" ∷
+    "32 ExchangeStates c2 g0 w0 p1@1{14,17,29,32} a0 v- y![14:1,17:1] r[32:1] o[] x{} b0" ∷
+    "= 31" ∷
+    "14 ExchangeStates c3 g0 w0 p1@1{14,17,29,32} a0 v- y![14:1,17:1,14:2] r[] o[] x{} b0" ∷
+    "17 ExchangeStates c3 g0 w0 p1@1{14,17,29,32} a0 v- y![14:1,17:1,14:2] r[17:2] o[] x{} b0" ∷
+    "= 32" ∷
+    "sweak 1 absent at 0" ∷
+    "= 34" ∷
+    "14 ExchangeActions c3 g0 w0 p1@1{14,17,29,32} a0 v- y![14:1,17:1,14:2] r[] o[] x{} b0" ∷
+    "= 35" ∷
+    "17 ExchangeActions c3 g0 w0 p1@1{14,17,29,32} a0 v- y![14:1,17:1,14:2] r[17:2] o[] x{} b0" ∷
+    "= 36" ∷
+    "32 NonPrim c2 g0 w0 p1@1{14,17,29,32} a0 v- y![14:1,17:1] r[32:1] o[] x{} b0" ∷
+    "= 38" ∷
+    "14 Construct c3 g0 w0 p1@1{14,17,29,32} a1 v3/1{14,17}{14} y![14:1,17:1,14:2] r[17:2] o[] x{} b0" ∷
+    "= 39" ∷
+    "17 Construct c3 g0 w0 p1@1{14,17,29,32} a1 v3/1{14,17}{17} y![14:1,17:1,14:2] r[17:2] o[] x{} b0" ∷
+    "= 41" ∷
+    "order 1 14:1" ∷
+    "order 2 17:1" ∷
+    "order 3 14:2" ∷
+    "order 4 17:2" ∷
+    "17 RegPrim c3 g4 w0 p2@3{14,17} a0 v3/1{14,17}{17} y- r[] o[] x{} b0" ∷
+    "reply 17:1 done ? keys" ∷
+    "reply 17:2 done" ∷
+    "session 1 at 4" ∷
+    "= 46" ∷
+    "14 Un t3 g0 w0 p1@1{14,17,29,32} a1 v3/1{14,17}{14} y![14:1,17:1,14:2] r[17:2] o[] x{} b0" ∷
+    "= 48" ∷
+    "14 ExchangeStates c4 g0 w0 p1@1{14,17,29,32} a1 v3/1{14,17}{14} y![14:1,17:1,14:2] r[17:2] o[] x{} b0" ∷
+    "29 ExchangeStates c4 g0 w0 p1@1{14,17,29,32} a0 v1/0{14,17,29,32}{29} y- r[] o[] x{} b0" ∷
+    "= 50" ∷
+    "14 ExchangeActions c4 g0 w0 p1@1{14,17,29,32} a1 v3/1{14,17}{14} y![14:1,17:1,14:2] r[17:2] o[] x{} b0" ∷
+    "= 51" ∷
+    "29 ExchangeActions c4 g0 w0 p1@1{14,17,29,32} a0 v1/0{14,17,29,32}{29} y- r[] o[] x{} b0" ∷
+    "= 52" ∷
+    "sweak 1 behind 0 4" ∷
+    "= 55" ∷
+    "29 ExchangeActions c4 g0 w0 p1@1{14,17,29,32} a0 v1/0{14,17,29,32}{29} y- r[14:1,14:2] o[] x{} b0" ∷
+    "= 57" ∷
+    "14 NonPrim c4 g0 w0 p1@1{14,17,29,32} a1 v3/1{14,17}{14} y![14:1,17:1,14:2] r[17:2] o[] x{} b0" ∷
+    "= 58" ∷
+    "29 Down" ∷
+    "end 58" ∷
+    [])
+unfolding cases_compute
+generated_sessions_behind_a = refl
+
 -- Sessions: a replica crashes; replies raise the token.
 generated_sessions_crash_at_a :
     put_by "sessions" (
@@ -587,194 +726,3 @@ generated_sessions_joiner_a :
     [])
 unfolding cases_compute
 generated_sessions_joiner_a = refl
-
--- Sessions: several sessions write.
-generated_sessions_several_a :
-    put_by "sessions" (
-    "start 16 17 25" ∷
-    "merge 16 17 25" ∷
-    "gather" ∷
-    "split 25" ∷
-    "split 16 17" ∷
-    "merge 16 17 25" ∷
-    "split 16 17 25" ∷
-    "merge 16 17 25" ∷
-    "rounds 3" ∷
-    "request 16 put \"y\" \"back\\\\slash\"" ∷
-    "stop 16 3 01" ∷
-    "request 17 cas \"ab\" 51 99" ∷
-    "request 17 move \"z\" \"a\" 9" ∷
-    "request 16 inc \"x\" 10" ∷
-    "gather" ∷
-    "split 17 25" ∷
-    "merge 17 25" ∷
-    "rounds 3" ∷
-    "request 25 inc \"z\" 9223372036854775807" ∷
-    "dirty 17 get \"abc\"" ∷
-    "gather" ∷
-    "request 17 put \"b\" 23" ∷
-    "show 25" ∷
-    "rounds 2" ∷
-    "request 17 inc \"k1\" 4" ∷
-    "session 1" ∷
-    "sweak 1 17 get \"abc\"" ∷
-    "show 17" ∷
-    "request 25 ? get \"y\"" ∷
-    "request 17 need \"ab\" absent; inc \"y\" 9223372036854775807 ? keys \"ab\"" ∷
-    "request 17 inc \"abc\" 9" ∷
-    "recover 16" ∷
-    "gather" ∷
-    "gather" ∷
-    "deliver 17 1" ∷
-    "deliver 25 1" ∷
-    "session 30" ∷
-    "deliver 25 3" ∷
-    "swrite 1 17 del \"x\"; put \"a\" 56; put \"z\" \"back\\\\slash\"; move \"z\" \"y\" 3" ∷
-    "leave 25 17" ∷
-    "swrite 30 17 put \"z\" \"hi\" ? keys \"\"" ∷
-    "split 17 25" ∷
-    "merge 17 25" ∷
-    "gather" ∷
-    "end" ∷
-    [])
-    ≡ written (
-    "= 1" ∷
-    "16 NonPrim - g0 w0 p0@0{16,17,25} a0 v- y- r[] o[] x{} b0" ∷
-    "17 NonPrim - g0 w0 p0@0{16,17,25} a0 v- y- r[] o[] x{} b0" ∷
-    "25 NonPrim - g0 w0 p0@0{16,17,25} a0 v- y- r[] o[] x{} b0" ∷
-    "= 2" ∷
-    "16 ExchangeStates c1 g0 w0 p0@0{16,17,25} a0 v- y- r[] o[] x{} b0" ∷
-    "17 ExchangeStates c1 g0 w0 p0@0{16,17,25} a0 v- y- r[] o[] x{} b0" ∷
-    "25 ExchangeStates c1 g0 w0 p0@0{16,17,25} a0 v- y- r[] o[] x{} b0" ∷
-    "= 4" ∷
-    "25 NonPrim t1 g0 w0 p0@0{16,17,25} a0 v- y- r[] o[] x{} b0" ∷
-    "= 5" ∷
-    "16 NonPrim t1 g0 w0 p0@0{16,17,25} a0 v- y- r[] o[] x{} b0" ∷
-    "17 NonPrim t1 g0 w0 p0@0{16,17,25} a0 v- y- r[] o[] x{} b0" ∷
-    "= 6" ∷
-    "16 ExchangeStates c2 g0 w0 p0@0{16,17,25} a0 v- y- r[] o[] x{} b0" ∷
-    "17 ExchangeStates c2 g0 w0 p0@0{16,17,25} a0 v- y- r[] o[] x{} b0" ∷
-    "25 ExchangeStates c2 g0 w0 p0@0{16,17,25} a0 v- y- r[] o[] x{} b0" ∷
-    "= 7" ∷
-    "16 NonPrim t2 g0 w0 p0@0{16,17,25} a0 v- y- r[] o[] x{} b0" ∷
-    "17 NonPrim t2 g0 w0 p0@0{16,17,25} a0 v- y- r[] o[] x{} b0" ∷
-    "25 NonPrim t2 g0 w0 p0@0{16,17,25} a0 v- y- r[] o[] x{} b0" ∷
-    "= 8" ∷
-    "16 ExchangeStates c3 g0 w0 p0@0{16,17,25} a0 v- y- r[] o[] x{} b0" ∷
-    "17 ExchangeStates c3 g0 w0 p0@0{16,17,25} a0 v- y- r[] o[] x{} b0" ∷
-    "25 ExchangeStates c3 g0 w0 p0@0{16,17,25} a0 v- y- r[] o[] x{} b0" ∷
-    "= 10" ∷
-    "16 Construct c3 g0 w0 p0@0{16,17,25} a1 v3/0{16,17,25}{16} y- r[] o[] x{} b0" ∷
-    "= 11" ∷
-    "17 Construct c3 g0 w0 p0@0{16,17,25} a1 v3/0{16,17,25}{17} y- r[] o[] x{} b0" ∷
-    "= 12" ∷
-    "25 Construct c3 g0 w0 p0@0{16,17,25} a1 v3/0{16,17,25}{25} y- r[] o[] x{} b0" ∷
-    "= 14" ∷
-    "16 RegPrim c3 g0 w0 p1@3{16,17,25} a0 v3/0{16,17,25}{16} y- r[] o[] x{} b0" ∷
-    "= 15" ∷
-    "17 RegPrim c3 g0 w0 p1@3{16,17,25} a0 v3/0{16,17,25}{17} y- r[] o[] x{} b0" ∷
-    "= 16" ∷
-    "25 RegPrim c3 g0 w0 p1@3{16,17,25} a0 v3/0{16,17,25}{25} y- r[] o[] x{} b0" ∷
-    "= 18" ∷
-    "made 16:1 put \"y\" \"back\\\\slash\"" ∷
-    "16 RegPrim c3 g0 w0 p1@3{16,17,25} a0 v3/0{16,17,25}{16} y- r[] o[16:1] x{} b0" ∷
-    "= 20" ∷
-    "made 17:1 cas \"ab\" 51 99" ∷
-    "17 RegPrim c3 g0 w0 p1@3{16,17,25} a0 v3/0{16,17,25}{17} y- r[] o[17:1] x{} b0" ∷
-    "= 21" ∷
-    "made 17:2 move \"z\" \"a\" 9" ∷
-    "17 RegPrim c3 g0 w0 p1@3{16,17,25} a0 v3/0{16,17,25}{17} y- r[] o[17:1,17:2] x{} b0" ∷
-    "= 22" ∷
-    "16 Down" ∷
-    "= 24" ∷
-    "17 TransPrim t3 g0 w0 p1@3{16,17,25} a0 v3/0{16,17,25}{17} y?[17:1,17:2] r[] o[] x{} b0" ∷
-    "25 TransPrim t3 g0 w0 p1@3{16,17,25} a0 v3/0{16,17,25}{25} y?[17:1,17:2] r[] o[] x{} b0" ∷
-    "= 25" ∷
-    "17 ExchangeStates c4 g0 w0 p1@3{16,17,25} a0 v- y![17:1,17:2] r[] o[] x{} b0" ∷
-    "25 ExchangeStates c4 g0 w0 p1@3{16,17,25} a0 v- y![17:1,17:2] r[] o[] x{} b0" ∷
-    "= 27" ∷
-    "17 Construct c4 g0 w0 p1@3{16,17,25} a1 v4/1{17,25}{17} y![17:1,17:2] r[] o[] x{} b0" ∷
-    "= 28" ∷
-    "25 Construct c4 g0 w0 p1@3{16,17,25} a1 v4/1{17,25}{25} y![17:1,17:2] r[] o[] x{} b0" ∷
-    "= 30" ∷
-    "order 1 17:1" ∷
-    "order 2 17:2" ∷
-    "17 RegPrim c4 g2 w0 p2@4{17,25} a0 v4/1{17,25}{17} y- r[] o[] x{} b0" ∷
-    "reply 17:1 done" ∷
-    "reply 17:2 aborted 1" ∷
-    "= 31" ∷
-    "25 RegPrim c4 g2 w0 p2@4{17,25} a0 v4/1{17,25}{25} y- r[] o[] x{} b0" ∷
-    "= 33" ∷
-    "made 25:1 inc \"z\" 9223372036854775807" ∷
-    "25 RegPrim c4 g2 w0 p2@4{17,25} a0 v4/1{17,25}{25} y- r[] o[25:1] x{} b0" ∷
-    "= 34" ∷
-    "dirty 17 absent" ∷
-    "= 36" ∷
-    "made 17:3 put \"b\" 23" ∷
-    "17 RegPrim c4 g2 w0 p2@4{17,25} a0 v4/1{17,25}{17} y- r[] o[17:3] x{} b0" ∷
-    "= 37" ∷
-    "greens 25 [17:1,17:2]" ∷
-    "db 25" ∷
-    "= 39" ∷
-    "order 3 25:1" ∷
-    "order 4 17:3" ∷
-    "17 RegPrim c4 g4 w0 p2@4{17,25} a0 v4/1{17,25}{17} y- r[] o[] x{} b0" ∷
-    "reply 17:3 done" ∷
-    "= 40" ∷
-    "25 RegPrim c4 g4 w0 p2@4{17,25} a0 v4/1{17,25}{25} y- r[] o[] x{} b0" ∷
-    "reply 25:1 done" ∷
-    "= 42" ∷
-    "made 17:4 inc \"k1\" 4" ∷
-    "17 RegPrim c4 g4 w0 p2@4{17,25} a0 v4/1{17,25}{17} y- r[] o[17:4] x{} b0" ∷
-    "= 44" ∷
-    "sweak 1 absent at 4" ∷
-    "= 45" ∷
-    "greens 17 [17:1,17:2,25:1,17:3]" ∷
-    "db 17 \"b\"=23 \"z\"=9223372036854775807" ∷
-    "= 46" ∷
-    "made 25:2 ? get \"y\"" ∷
-    "25 RegPrim c4 g4 w0 p2@4{17,25} a0 v4/1{17,25}{25} y- r[] o[25:2] x{} b0" ∷
-    "= 47" ∷
-    "made 17:5 need \"ab\" absent; inc \"y\" 9223372036854775807 ? keys \"ab\"" ∷
-    "17 RegPrim c4 g4 w0 p2@4{17,25} a0 v4/1{17,25}{17} y- r[] o[17:4,17:5] x{} b0" ∷
-    "= 48" ∷
-    "made 17:6 inc \"abc\" 9" ∷
-    "17 RegPrim c4 g4 w0 p2@4{17,25} a0 v4/1{17,25}{17} y- r[] o[17:4,17:5,17:6] x{} b0" ∷
-    "= 49" ∷
-    "made 16:2 inc \"x\" 10" ∷
-    "16 NonPrim - g0 w0 p1@3{16,17,25} a0 v3/0{16,17,25}{16} y- r[16:1,16:2] o[] x{} b0" ∷
-    "= 52" ∷
-    "order 5 17:4" ∷
-    "17 RegPrim c4 g5 w0 p2@4{17,25} a0 v4/1{17,25}{17} y- r[] o[17:5,17:6] x{} b0" ∷
-    "reply 17:4 done" ∷
-    "= 53" ∷
-    "25 RegPrim c4 g5 w0 p2@4{17,25} a0 v4/1{17,25}{25} y- r[] o[25:2] x{} b0" ∷
-    "= 55" ∷
-    "order 6 17:5" ∷
-    "order 7 17:6" ∷
-    "order 8 25:2" ∷
-    "25 RegPrim c4 g8 w0 p2@4{17,25} a0 v4/1{17,25}{25} y- r[] o[] x{} b0" ∷
-    "reply 25:2 done ? 9223372036854775807" ∷
-    "= 56" ∷
-    "made 17:7 del \"x\"; put \"a\" 56; put \"z\" \"back\\\\slash\"; move \"z\" \"y\" 3" ∷
-    "17 RegPrim c4 g5 w0 p2@4{17,25} a0 v4/1{17,25}{17} y- r[] o[17:5,17:6,17:7] x{} b0" ∷
-    "session 1 wrote 17:7" ∷
-    "= 57" ∷
-    "made 25:3 leave 17" ∷
-    "25 RegPrim c4 g8 w0 p2@4{17,25} a0 v4/1{17,25}{25} y- r[] o[25:3] x{} b0" ∷
-    "= 58" ∷
-    "made 17:8 put \"z\" \"hi\" ? keys \"\"" ∷
-    "17 RegPrim c4 g5 w0 p2@4{17,25} a0 v4/1{17,25}{17} y- r[] o[17:5,17:6,17:7,17:8] x{} b0" ∷
-    "session 30 wrote 17:8" ∷
-    "= 59" ∷
-    "17 TransPrim t4 g8 w0 p2@4{17,25} a0 v4/1{17,25}{17} y- r[] o[17:7,17:8] x{} b0" ∷
-    "25 TransPrim t4 g8 w0 p2@4{17,25} a0 v4/1{17,25}{25} y- r[] o[25:3] x{} b0" ∷
-    "reply 17:5 done ? keys" ∷
-    "reply 17:6 done" ∷
-    "= 60" ∷
-    "17 ExchangeStates c5 g8 w0 p2@4{17,25} a0 v- y![] r[17:7,17:8] o[] x{} b0" ∷
-    "25 ExchangeStates c5 g8 w0 p2@4{17,25} a0 v- y![] r[25:3] o[] x{} b0" ∷
-    "end 61" ∷
-    [])
-unfolding cases_compute
-generated_sessions_several_a = refl

@@ -4,6 +4,406 @@ use mathlib.Core.Path.{refl}
 use Rattle.cg_run_cases.specs.Replaying.{put_by, written}
 use Rattle.cg_run_cases.specs.Computing.{cases_compute}
 
+-- A session reads at no replica that has left.
+sessions_refused_read_at_a_leaver :
+    put_by "sessions" (
+    "start 1 2 3" ∷
+    "merge 1 2 3" ∷
+    "rounds 2" ∷
+    "split 1 2" ∷
+    "split 3" ∷
+    "merge 1 2" ∷
+    "merge 3" ∷
+    "rounds 2" ∷
+    "leave 1 3" ∷
+    "rounds 1" ∷
+    "split 1 2" ∷
+    "split 3" ∷
+    "merge 1 2 3" ∷
+    "rounds 3" ∷
+    "session 1" ∷
+    "sweak 1 3 count" ∷
+    [])
+    ≡ written (
+    "= 1" ∷
+    "1 NonPrim - g0 w0 p0@0{1,2,3} a0 v- y- r[] o[] x{} b0" ∷
+    "2 NonPrim - g0 w0 p0@0{1,2,3} a0 v- y- r[] o[] x{} b0" ∷
+    "3 NonPrim - g0 w0 p0@0{1,2,3} a0 v- y- r[] o[] x{} b0" ∷
+    "= 2" ∷
+    "1 ExchangeStates c1 g0 w0 p0@0{1,2,3} a0 v- y- r[] o[] x{} b0" ∷
+    "2 ExchangeStates c1 g0 w0 p0@0{1,2,3} a0 v- y- r[] o[] x{} b0" ∷
+    "3 ExchangeStates c1 g0 w0 p0@0{1,2,3} a0 v- y- r[] o[] x{} b0" ∷
+    "= 4" ∷
+    "1 Construct c1 g0 w0 p0@0{1,2,3} a1 v1/0{1,2,3}{1} y- r[] o[] x{} b0" ∷
+    "= 5" ∷
+    "2 Construct c1 g0 w0 p0@0{1,2,3} a1 v1/0{1,2,3}{2} y- r[] o[] x{} b0" ∷
+    "= 6" ∷
+    "3 Construct c1 g0 w0 p0@0{1,2,3} a1 v1/0{1,2,3}{3} y- r[] o[] x{} b0" ∷
+    "= 8" ∷
+    "1 RegPrim c1 g0 w0 p1@1{1,2,3} a0 v1/0{1,2,3}{1} y- r[] o[] x{} b0" ∷
+    "= 9" ∷
+    "2 RegPrim c1 g0 w0 p1@1{1,2,3} a0 v1/0{1,2,3}{2} y- r[] o[] x{} b0" ∷
+    "= 10" ∷
+    "3 RegPrim c1 g0 w0 p1@1{1,2,3} a0 v1/0{1,2,3}{3} y- r[] o[] x{} b0" ∷
+    "= 11" ∷
+    "1 TransPrim t1 g0 w0 p1@1{1,2,3} a0 v1/0{1,2,3}{1} y- r[] o[] x{} b0" ∷
+    "2 TransPrim t1 g0 w0 p1@1{1,2,3} a0 v1/0{1,2,3}{2} y- r[] o[] x{} b0" ∷
+    "= 12" ∷
+    "3 TransPrim t1 g0 w0 p1@1{1,2,3} a0 v1/0{1,2,3}{3} y- r[] o[] x{} b0" ∷
+    "= 13" ∷
+    "1 ExchangeStates c2 g0 w0 p1@1{1,2,3} a0 v- y![] r[] o[] x{} b0" ∷
+    "2 ExchangeStates c2 g0 w0 p1@1{1,2,3} a0 v- y![] r[] o[] x{} b0" ∷
+    "= 14" ∷
+    "3 ExchangeStates c3 g0 w0 p1@1{1,2,3} a0 v- y![] r[] o[] x{} b0" ∷
+    "= 16" ∷
+    "1 Construct c2 g0 w0 p1@1{1,2,3} a1 v2/1{1,2}{1} y![] r[] o[] x{} b0" ∷
+    "= 17" ∷
+    "2 Construct c2 g0 w0 p1@1{1,2,3} a1 v2/1{1,2}{2} y![] r[] o[] x{} b0" ∷
+    "= 18" ∷
+    "3 NonPrim c3 g0 w0 p1@1{1,2,3} a0 v- y![] r[] o[] x{} b0" ∷
+    "= 20" ∷
+    "1 RegPrim c2 g0 w0 p2@2{1,2} a0 v2/1{1,2}{1} y- r[] o[] x{} b0" ∷
+    "= 21" ∷
+    "2 RegPrim c2 g0 w0 p2@2{1,2} a0 v2/1{1,2}{2} y- r[] o[] x{} b0" ∷
+    "= 22" ∷
+    "made 1:1 leave 3" ∷
+    "1 RegPrim c2 g0 w0 p2@2{1,2} a0 v2/1{1,2}{1} y- r[] o[1:1] x{} b0" ∷
+    "= 24" ∷
+    "order 1 1:1" ∷
+    "1 RegPrim c2 g1 w0 p2@2{1,2} a0 v2/1{1,2}{1} y- r[] o[] x{3} b0" ∷
+    "reply 1:1 done" ∷
+    "= 25" ∷
+    "2 RegPrim c2 g1 w0 p2@2{1,2} a0 v2/1{1,2}{2} y- r[] o[] x{3} b0" ∷
+    "= 26" ∷
+    "1 TransPrim t2 g1 w0 p2@2{1,2} a0 v2/1{1,2}{1} y- r[] o[] x{3} b0" ∷
+    "2 TransPrim t2 g1 w0 p2@2{1,2} a0 v2/1{1,2}{2} y- r[] o[] x{3} b0" ∷
+    "= 27" ∷
+    "3 NonPrim t3 g0 w0 p1@1{1,2,3} a0 v- y![] r[] o[] x{} b0" ∷
+    "= 28" ∷
+    "1 ExchangeStates c4 g1 w0 p2@2{1,2} a0 v- y![] r[] o[] x{3} b0" ∷
+    "2 ExchangeStates c4 g1 w0 p2@2{1,2} a0 v- y![] r[] o[] x{3} b0" ∷
+    "3 ExchangeStates c4 g0 w0 p1@1{1,2,3} a0 v- y![] r[] o[] x{} b0" ∷
+    "= 30" ∷
+    "1 Construct c4 g1 w0 p2@2{1,2} a1 v4/2{1,2}{1} y![] r[] o[] x{3} b0" ∷
+    "= 31" ∷
+    "2 Construct c4 g1 w0 p2@2{1,2} a1 v4/2{1,2}{2} y![] r[] o[] x{3} b0" ∷
+    "= 32" ∷
+    "3 Left c4 g0 w0 p1@1{1,2,3} a0 v- y![] r[] o[] x{} b0" ∷
+    "= 34" ∷
+    "1 RegPrim c4 g1 w0 p3@4{1,2} a0 v4/2{1,2}{1} y- r[] o[] x{3} b0" ∷
+    "= 35" ∷
+    "2 RegPrim c4 g1 w0 p3@4{1,2} a0 v4/2{1,2}{2} y- r[] o[] x{3} b0" ∷
+    "refused 16 14 3" ∷
+    [])
+unfolding cases_compute
+sessions_refused_read_at_a_leaver = refl
+
+-- A session reads at no replica that has not begun.
+sessions_refused_read_at_an_unknown_replica :
+    put_by "sessions" (
+    "start 1 2 3" ∷
+    "merge 1 2 3" ∷
+    "rounds 2" ∷
+    "session 1" ∷
+    "sweak 1 4 count" ∷
+    [])
+    ≡ written (
+    "= 1" ∷
+    "1 NonPrim - g0 w0 p0@0{1,2,3} a0 v- y- r[] o[] x{} b0" ∷
+    "2 NonPrim - g0 w0 p0@0{1,2,3} a0 v- y- r[] o[] x{} b0" ∷
+    "3 NonPrim - g0 w0 p0@0{1,2,3} a0 v- y- r[] o[] x{} b0" ∷
+    "= 2" ∷
+    "1 ExchangeStates c1 g0 w0 p0@0{1,2,3} a0 v- y- r[] o[] x{} b0" ∷
+    "2 ExchangeStates c1 g0 w0 p0@0{1,2,3} a0 v- y- r[] o[] x{} b0" ∷
+    "3 ExchangeStates c1 g0 w0 p0@0{1,2,3} a0 v- y- r[] o[] x{} b0" ∷
+    "= 4" ∷
+    "1 Construct c1 g0 w0 p0@0{1,2,3} a1 v1/0{1,2,3}{1} y- r[] o[] x{} b0" ∷
+    "= 5" ∷
+    "2 Construct c1 g0 w0 p0@0{1,2,3} a1 v1/0{1,2,3}{2} y- r[] o[] x{} b0" ∷
+    "= 6" ∷
+    "3 Construct c1 g0 w0 p0@0{1,2,3} a1 v1/0{1,2,3}{3} y- r[] o[] x{} b0" ∷
+    "= 8" ∷
+    "1 RegPrim c1 g0 w0 p1@1{1,2,3} a0 v1/0{1,2,3}{1} y- r[] o[] x{} b0" ∷
+    "= 9" ∷
+    "2 RegPrim c1 g0 w0 p1@1{1,2,3} a0 v1/0{1,2,3}{2} y- r[] o[] x{} b0" ∷
+    "= 10" ∷
+    "3 RegPrim c1 g0 w0 p1@1{1,2,3} a0 v1/0{1,2,3}{3} y- r[] o[] x{} b0" ∷
+    "refused 5 11 4" ∷
+    [])
+unfolding cases_compute
+sessions_refused_read_at_an_unknown_replica = refl
+
+-- A session reads at no replica that is down.
+sessions_refused_read_at_one_that_is_down :
+    put_by "sessions" (
+    "start 1 2 3" ∷
+    "merge 1 2 3" ∷
+    "rounds 2" ∷
+    "session 1" ∷
+    "stop 2 0 -" ∷
+    "sweak 1 2 count" ∷
+    [])
+    ≡ written (
+    "= 1" ∷
+    "1 NonPrim - g0 w0 p0@0{1,2,3} a0 v- y- r[] o[] x{} b0" ∷
+    "2 NonPrim - g0 w0 p0@0{1,2,3} a0 v- y- r[] o[] x{} b0" ∷
+    "3 NonPrim - g0 w0 p0@0{1,2,3} a0 v- y- r[] o[] x{} b0" ∷
+    "= 2" ∷
+    "1 ExchangeStates c1 g0 w0 p0@0{1,2,3} a0 v- y- r[] o[] x{} b0" ∷
+    "2 ExchangeStates c1 g0 w0 p0@0{1,2,3} a0 v- y- r[] o[] x{} b0" ∷
+    "3 ExchangeStates c1 g0 w0 p0@0{1,2,3} a0 v- y- r[] o[] x{} b0" ∷
+    "= 4" ∷
+    "1 Construct c1 g0 w0 p0@0{1,2,3} a1 v1/0{1,2,3}{1} y- r[] o[] x{} b0" ∷
+    "= 5" ∷
+    "2 Construct c1 g0 w0 p0@0{1,2,3} a1 v1/0{1,2,3}{2} y- r[] o[] x{} b0" ∷
+    "= 6" ∷
+    "3 Construct c1 g0 w0 p0@0{1,2,3} a1 v1/0{1,2,3}{3} y- r[] o[] x{} b0" ∷
+    "= 8" ∷
+    "1 RegPrim c1 g0 w0 p1@1{1,2,3} a0 v1/0{1,2,3}{1} y- r[] o[] x{} b0" ∷
+    "= 9" ∷
+    "2 RegPrim c1 g0 w0 p1@1{1,2,3} a0 v1/0{1,2,3}{2} y- r[] o[] x{} b0" ∷
+    "= 10" ∷
+    "3 RegPrim c1 g0 w0 p1@1{1,2,3} a0 v1/0{1,2,3}{3} y- r[] o[] x{} b0" ∷
+    "= 12" ∷
+    "2 Down" ∷
+    "refused 6 1 2" ∷
+    [])
+unfolding cases_compute
+sessions_refused_read_at_one_that_is_down = refl
+
+-- A session is opened once.
+sessions_refused_session_opened_twice :
+    put_by "sessions" (
+    "start 1 2 3" ∷
+    "merge 1 2 3" ∷
+    "rounds 2" ∷
+    "session 32" ∷
+    "session 32" ∷
+    [])
+    ≡ written (
+    "= 1" ∷
+    "1 NonPrim - g0 w0 p0@0{1,2,3} a0 v- y- r[] o[] x{} b0" ∷
+    "2 NonPrim - g0 w0 p0@0{1,2,3} a0 v- y- r[] o[] x{} b0" ∷
+    "3 NonPrim - g0 w0 p0@0{1,2,3} a0 v- y- r[] o[] x{} b0" ∷
+    "= 2" ∷
+    "1 ExchangeStates c1 g0 w0 p0@0{1,2,3} a0 v- y- r[] o[] x{} b0" ∷
+    "2 ExchangeStates c1 g0 w0 p0@0{1,2,3} a0 v- y- r[] o[] x{} b0" ∷
+    "3 ExchangeStates c1 g0 w0 p0@0{1,2,3} a0 v- y- r[] o[] x{} b0" ∷
+    "= 4" ∷
+    "1 Construct c1 g0 w0 p0@0{1,2,3} a1 v1/0{1,2,3}{1} y- r[] o[] x{} b0" ∷
+    "= 5" ∷
+    "2 Construct c1 g0 w0 p0@0{1,2,3} a1 v1/0{1,2,3}{2} y- r[] o[] x{} b0" ∷
+    "= 6" ∷
+    "3 Construct c1 g0 w0 p0@0{1,2,3} a1 v1/0{1,2,3}{3} y- r[] o[] x{} b0" ∷
+    "= 8" ∷
+    "1 RegPrim c1 g0 w0 p1@1{1,2,3} a0 v1/0{1,2,3}{1} y- r[] o[] x{} b0" ∷
+    "= 9" ∷
+    "2 RegPrim c1 g0 w0 p1@1{1,2,3} a0 v1/0{1,2,3}{2} y- r[] o[] x{} b0" ∷
+    "= 10" ∷
+    "3 RegPrim c1 g0 w0 p1@1{1,2,3} a0 v1/0{1,2,3}{3} y- r[] o[] x{} b0" ∷
+    "refused 5 24 32" ∷
+    [])
+unfolding cases_compute
+sessions_refused_session_opened_twice = refl
+
+-- A session that was not opened does not read, and that is tested before the replica.
+sessions_refused_unknown_session_read :
+    put_by "sessions" (
+    "start 1 2 3" ∷
+    "merge 1 2 3" ∷
+    "rounds 2" ∷
+    "session 2" ∷
+    "sweak 1 9 count" ∷
+    [])
+    ≡ written (
+    "= 1" ∷
+    "1 NonPrim - g0 w0 p0@0{1,2,3} a0 v- y- r[] o[] x{} b0" ∷
+    "2 NonPrim - g0 w0 p0@0{1,2,3} a0 v- y- r[] o[] x{} b0" ∷
+    "3 NonPrim - g0 w0 p0@0{1,2,3} a0 v- y- r[] o[] x{} b0" ∷
+    "= 2" ∷
+    "1 ExchangeStates c1 g0 w0 p0@0{1,2,3} a0 v- y- r[] o[] x{} b0" ∷
+    "2 ExchangeStates c1 g0 w0 p0@0{1,2,3} a0 v- y- r[] o[] x{} b0" ∷
+    "3 ExchangeStates c1 g0 w0 p0@0{1,2,3} a0 v- y- r[] o[] x{} b0" ∷
+    "= 4" ∷
+    "1 Construct c1 g0 w0 p0@0{1,2,3} a1 v1/0{1,2,3}{1} y- r[] o[] x{} b0" ∷
+    "= 5" ∷
+    "2 Construct c1 g0 w0 p0@0{1,2,3} a1 v1/0{1,2,3}{2} y- r[] o[] x{} b0" ∷
+    "= 6" ∷
+    "3 Construct c1 g0 w0 p0@0{1,2,3} a1 v1/0{1,2,3}{3} y- r[] o[] x{} b0" ∷
+    "= 8" ∷
+    "1 RegPrim c1 g0 w0 p1@1{1,2,3} a0 v1/0{1,2,3}{1} y- r[] o[] x{} b0" ∷
+    "= 9" ∷
+    "2 RegPrim c1 g0 w0 p1@1{1,2,3} a0 v1/0{1,2,3}{2} y- r[] o[] x{} b0" ∷
+    "= 10" ∷
+    "3 RegPrim c1 g0 w0 p1@1{1,2,3} a0 v1/0{1,2,3}{3} y- r[] o[] x{} b0" ∷
+    "refused 5 23 1" ∷
+    [])
+unfolding cases_compute
+sessions_refused_unknown_session_read = refl
+
+-- A session that was not opened does not write, and that is tested before the replica.
+sessions_refused_unknown_session_write :
+    put_by "sessions" (
+    "start 1 2 3" ∷
+    "merge 1 2 3" ∷
+    "rounds 2" ∷
+    "swrite 1 9 put \"x\" 1" ∷
+    [])
+    ≡ written (
+    "= 1" ∷
+    "1 NonPrim - g0 w0 p0@0{1,2,3} a0 v- y- r[] o[] x{} b0" ∷
+    "2 NonPrim - g0 w0 p0@0{1,2,3} a0 v- y- r[] o[] x{} b0" ∷
+    "3 NonPrim - g0 w0 p0@0{1,2,3} a0 v- y- r[] o[] x{} b0" ∷
+    "= 2" ∷
+    "1 ExchangeStates c1 g0 w0 p0@0{1,2,3} a0 v- y- r[] o[] x{} b0" ∷
+    "2 ExchangeStates c1 g0 w0 p0@0{1,2,3} a0 v- y- r[] o[] x{} b0" ∷
+    "3 ExchangeStates c1 g0 w0 p0@0{1,2,3} a0 v- y- r[] o[] x{} b0" ∷
+    "= 4" ∷
+    "1 Construct c1 g0 w0 p0@0{1,2,3} a1 v1/0{1,2,3}{1} y- r[] o[] x{} b0" ∷
+    "= 5" ∷
+    "2 Construct c1 g0 w0 p0@0{1,2,3} a1 v1/0{1,2,3}{2} y- r[] o[] x{} b0" ∷
+    "= 6" ∷
+    "3 Construct c1 g0 w0 p0@0{1,2,3} a1 v1/0{1,2,3}{3} y- r[] o[] x{} b0" ∷
+    "= 8" ∷
+    "1 RegPrim c1 g0 w0 p1@1{1,2,3} a0 v1/0{1,2,3}{1} y- r[] o[] x{} b0" ∷
+    "= 9" ∷
+    "2 RegPrim c1 g0 w0 p1@1{1,2,3} a0 v1/0{1,2,3}{2} y- r[] o[] x{} b0" ∷
+    "= 10" ∷
+    "3 RegPrim c1 g0 w0 p1@1{1,2,3} a0 v1/0{1,2,3}{3} y- r[] o[] x{} b0" ∷
+    "refused 4 23 1" ∷
+    [])
+unfolding cases_compute
+sessions_refused_unknown_session_write = refl
+
+-- That a replica has left is told before that it does not create.
+sessions_refused_write_at_a_leaver :
+    put_by "sessions" (
+    "start 1 2 3" ∷
+    "merge 1 2 3" ∷
+    "rounds 2" ∷
+    "split 1 2" ∷
+    "split 3" ∷
+    "merge 1 2" ∷
+    "merge 3" ∷
+    "rounds 2" ∷
+    "leave 1 3" ∷
+    "rounds 1" ∷
+    "split 1 2" ∷
+    "split 3" ∷
+    "merge 1 2 3" ∷
+    "rounds 3" ∷
+    "session 1" ∷
+    "swrite 1 3 put \"x\" 1" ∷
+    [])
+    ≡ written (
+    "= 1" ∷
+    "1 NonPrim - g0 w0 p0@0{1,2,3} a0 v- y- r[] o[] x{} b0" ∷
+    "2 NonPrim - g0 w0 p0@0{1,2,3} a0 v- y- r[] o[] x{} b0" ∷
+    "3 NonPrim - g0 w0 p0@0{1,2,3} a0 v- y- r[] o[] x{} b0" ∷
+    "= 2" ∷
+    "1 ExchangeStates c1 g0 w0 p0@0{1,2,3} a0 v- y- r[] o[] x{} b0" ∷
+    "2 ExchangeStates c1 g0 w0 p0@0{1,2,3} a0 v- y- r[] o[] x{} b0" ∷
+    "3 ExchangeStates c1 g0 w0 p0@0{1,2,3} a0 v- y- r[] o[] x{} b0" ∷
+    "= 4" ∷
+    "1 Construct c1 g0 w0 p0@0{1,2,3} a1 v1/0{1,2,3}{1} y- r[] o[] x{} b0" ∷
+    "= 5" ∷
+    "2 Construct c1 g0 w0 p0@0{1,2,3} a1 v1/0{1,2,3}{2} y- r[] o[] x{} b0" ∷
+    "= 6" ∷
+    "3 Construct c1 g0 w0 p0@0{1,2,3} a1 v1/0{1,2,3}{3} y- r[] o[] x{} b0" ∷
+    "= 8" ∷
+    "1 RegPrim c1 g0 w0 p1@1{1,2,3} a0 v1/0{1,2,3}{1} y- r[] o[] x{} b0" ∷
+    "= 9" ∷
+    "2 RegPrim c1 g0 w0 p1@1{1,2,3} a0 v1/0{1,2,3}{2} y- r[] o[] x{} b0" ∷
+    "= 10" ∷
+    "3 RegPrim c1 g0 w0 p1@1{1,2,3} a0 v1/0{1,2,3}{3} y- r[] o[] x{} b0" ∷
+    "= 11" ∷
+    "1 TransPrim t1 g0 w0 p1@1{1,2,3} a0 v1/0{1,2,3}{1} y- r[] o[] x{} b0" ∷
+    "2 TransPrim t1 g0 w0 p1@1{1,2,3} a0 v1/0{1,2,3}{2} y- r[] o[] x{} b0" ∷
+    "= 12" ∷
+    "3 TransPrim t1 g0 w0 p1@1{1,2,3} a0 v1/0{1,2,3}{3} y- r[] o[] x{} b0" ∷
+    "= 13" ∷
+    "1 ExchangeStates c2 g0 w0 p1@1{1,2,3} a0 v- y![] r[] o[] x{} b0" ∷
+    "2 ExchangeStates c2 g0 w0 p1@1{1,2,3} a0 v- y![] r[] o[] x{} b0" ∷
+    "= 14" ∷
+    "3 ExchangeStates c3 g0 w0 p1@1{1,2,3} a0 v- y![] r[] o[] x{} b0" ∷
+    "= 16" ∷
+    "1 Construct c2 g0 w0 p1@1{1,2,3} a1 v2/1{1,2}{1} y![] r[] o[] x{} b0" ∷
+    "= 17" ∷
+    "2 Construct c2 g0 w0 p1@1{1,2,3} a1 v2/1{1,2}{2} y![] r[] o[] x{} b0" ∷
+    "= 18" ∷
+    "3 NonPrim c3 g0 w0 p1@1{1,2,3} a0 v- y![] r[] o[] x{} b0" ∷
+    "= 20" ∷
+    "1 RegPrim c2 g0 w0 p2@2{1,2} a0 v2/1{1,2}{1} y- r[] o[] x{} b0" ∷
+    "= 21" ∷
+    "2 RegPrim c2 g0 w0 p2@2{1,2} a0 v2/1{1,2}{2} y- r[] o[] x{} b0" ∷
+    "= 22" ∷
+    "made 1:1 leave 3" ∷
+    "1 RegPrim c2 g0 w0 p2@2{1,2} a0 v2/1{1,2}{1} y- r[] o[1:1] x{} b0" ∷
+    "= 24" ∷
+    "order 1 1:1" ∷
+    "1 RegPrim c2 g1 w0 p2@2{1,2} a0 v2/1{1,2}{1} y- r[] o[] x{3} b0" ∷
+    "reply 1:1 done" ∷
+    "= 25" ∷
+    "2 RegPrim c2 g1 w0 p2@2{1,2} a0 v2/1{1,2}{2} y- r[] o[] x{3} b0" ∷
+    "= 26" ∷
+    "1 TransPrim t2 g1 w0 p2@2{1,2} a0 v2/1{1,2}{1} y- r[] o[] x{3} b0" ∷
+    "2 TransPrim t2 g1 w0 p2@2{1,2} a0 v2/1{1,2}{2} y- r[] o[] x{3} b0" ∷
+    "= 27" ∷
+    "3 NonPrim t3 g0 w0 p1@1{1,2,3} a0 v- y![] r[] o[] x{} b0" ∷
+    "= 28" ∷
+    "1 ExchangeStates c4 g1 w0 p2@2{1,2} a0 v- y![] r[] o[] x{3} b0" ∷
+    "2 ExchangeStates c4 g1 w0 p2@2{1,2} a0 v- y![] r[] o[] x{3} b0" ∷
+    "3 ExchangeStates c4 g0 w0 p1@1{1,2,3} a0 v- y![] r[] o[] x{} b0" ∷
+    "= 30" ∷
+    "1 Construct c4 g1 w0 p2@2{1,2} a1 v4/2{1,2}{1} y![] r[] o[] x{3} b0" ∷
+    "= 31" ∷
+    "2 Construct c4 g1 w0 p2@2{1,2} a1 v4/2{1,2}{2} y![] r[] o[] x{3} b0" ∷
+    "= 32" ∷
+    "3 Left c4 g0 w0 p1@1{1,2,3} a0 v- y![] r[] o[] x{} b0" ∷
+    "= 34" ∷
+    "1 RegPrim c4 g1 w0 p3@4{1,2} a0 v4/2{1,2}{1} y- r[] o[] x{3} b0" ∷
+    "= 35" ∷
+    "2 RegPrim c4 g1 w0 p3@4{1,2} a0 v4/2{1,2}{2} y- r[] o[] x{3} b0" ∷
+    "refused 16 14 3" ∷
+    [])
+unfolding cases_compute
+sessions_refused_write_at_a_leaver = refl
+
+-- A session writes at no replica that has not begun.
+sessions_refused_write_at_an_unknown_replica :
+    put_by "sessions" (
+    "start 1 2 3" ∷
+    "merge 1 2 3" ∷
+    "rounds 2" ∷
+    "session 1" ∷
+    "swrite 1 4 put \"x\" 1" ∷
+    [])
+    ≡ written (
+    "= 1" ∷
+    "1 NonPrim - g0 w0 p0@0{1,2,3} a0 v- y- r[] o[] x{} b0" ∷
+    "2 NonPrim - g0 w0 p0@0{1,2,3} a0 v- y- r[] o[] x{} b0" ∷
+    "3 NonPrim - g0 w0 p0@0{1,2,3} a0 v- y- r[] o[] x{} b0" ∷
+    "= 2" ∷
+    "1 ExchangeStates c1 g0 w0 p0@0{1,2,3} a0 v- y- r[] o[] x{} b0" ∷
+    "2 ExchangeStates c1 g0 w0 p0@0{1,2,3} a0 v- y- r[] o[] x{} b0" ∷
+    "3 ExchangeStates c1 g0 w0 p0@0{1,2,3} a0 v- y- r[] o[] x{} b0" ∷
+    "= 4" ∷
+    "1 Construct c1 g0 w0 p0@0{1,2,3} a1 v1/0{1,2,3}{1} y- r[] o[] x{} b0" ∷
+    "= 5" ∷
+    "2 Construct c1 g0 w0 p0@0{1,2,3} a1 v1/0{1,2,3}{2} y- r[] o[] x{} b0" ∷
+    "= 6" ∷
+    "3 Construct c1 g0 w0 p0@0{1,2,3} a1 v1/0{1,2,3}{3} y- r[] o[] x{} b0" ∷
+    "= 8" ∷
+    "1 RegPrim c1 g0 w0 p1@1{1,2,3} a0 v1/0{1,2,3}{1} y- r[] o[] x{} b0" ∷
+    "= 9" ∷
+    "2 RegPrim c1 g0 w0 p1@1{1,2,3} a0 v1/0{1,2,3}{2} y- r[] o[] x{} b0" ∷
+    "= 10" ∷
+    "3 RegPrim c1 g0 w0 p1@1{1,2,3} a0 v1/0{1,2,3}{3} y- r[] o[] x{} b0" ∷
+    "refused 5 11 4" ∷
+    [])
+unfolding cases_compute
+sessions_refused_write_at_an_unknown_replica = refl
+
 -- A replica outside any configuration does not create.
 sessions_refused_write_at_one_alone :
     put_by "sessions" (
@@ -341,364 +741,3 @@ sessions_replies_out_of_order :
     [])
 unfolding cases_compute
 sessions_replies_out_of_order = refl
-
--- A crash loses the reply, so the token stays; the action is ordered, and a read elsewhere may be older.
-sessions_reply_lost_to_a_crash :
-    put_by "sessions" (
-    "start 1 2 3" ∷
-    "merge 1 2 3" ∷
-    "rounds 2" ∷
-    "session 1" ∷
-    "swrite 1 1 put \"x\" 1" ∷
-    "gather" ∷
-    "stop 1 0 -" ∷
-    "deliver 2 1" ∷
-    "sweak 1 3 get \"x\"" ∷
-    "sweak 1 2 get \"x\"" ∷
-    "recover 1" ∷
-    "sweak 1 1 get \"x\"" ∷
-    "split 2 3" ∷
-    "merge 1 2 3" ∷
-    "rounds 4" ∷
-    "sweak 1 1 get \"x\"" ∷
-    "end" ∷
-    [])
-    ≡ written (
-    "= 1" ∷
-    "1 NonPrim - g0 w0 p0@0{1,2,3} a0 v- y- r[] o[] x{} b0" ∷
-    "2 NonPrim - g0 w0 p0@0{1,2,3} a0 v- y- r[] o[] x{} b0" ∷
-    "3 NonPrim - g0 w0 p0@0{1,2,3} a0 v- y- r[] o[] x{} b0" ∷
-    "= 2" ∷
-    "1 ExchangeStates c1 g0 w0 p0@0{1,2,3} a0 v- y- r[] o[] x{} b0" ∷
-    "2 ExchangeStates c1 g0 w0 p0@0{1,2,3} a0 v- y- r[] o[] x{} b0" ∷
-    "3 ExchangeStates c1 g0 w0 p0@0{1,2,3} a0 v- y- r[] o[] x{} b0" ∷
-    "= 4" ∷
-    "1 Construct c1 g0 w0 p0@0{1,2,3} a1 v1/0{1,2,3}{1} y- r[] o[] x{} b0" ∷
-    "= 5" ∷
-    "2 Construct c1 g0 w0 p0@0{1,2,3} a1 v1/0{1,2,3}{2} y- r[] o[] x{} b0" ∷
-    "= 6" ∷
-    "3 Construct c1 g0 w0 p0@0{1,2,3} a1 v1/0{1,2,3}{3} y- r[] o[] x{} b0" ∷
-    "= 8" ∷
-    "1 RegPrim c1 g0 w0 p1@1{1,2,3} a0 v1/0{1,2,3}{1} y- r[] o[] x{} b0" ∷
-    "= 9" ∷
-    "2 RegPrim c1 g0 w0 p1@1{1,2,3} a0 v1/0{1,2,3}{2} y- r[] o[] x{} b0" ∷
-    "= 10" ∷
-    "3 RegPrim c1 g0 w0 p1@1{1,2,3} a0 v1/0{1,2,3}{3} y- r[] o[] x{} b0" ∷
-    "= 12" ∷
-    "made 1:1 put \"x\" 1" ∷
-    "1 RegPrim c1 g0 w0 p1@1{1,2,3} a0 v1/0{1,2,3}{1} y- r[] o[1:1] x{} b0" ∷
-    "session 1 wrote 1:1" ∷
-    "= 14" ∷
-    "1 Down" ∷
-    "= 15" ∷
-    "order 1 1:1" ∷
-    "2 RegPrim c1 g1 w0 p1@1{1,2,3} a0 v1/0{1,2,3}{2} y- r[] o[] x{} b0" ∷
-    "= 16" ∷
-    "sweak 1 absent at 0" ∷
-    "= 17" ∷
-    "sweak 1 1 at 1" ∷
-    "= 18" ∷
-    "1 NonPrim - g0 w0 p1@1{1,2,3} a0 v1/0{1,2,3}{1} y- r[1:1] o[] x{} b0" ∷
-    "= 19" ∷
-    "sweak 1 behind 0 1" ∷
-    "= 20" ∷
-    "2 TransPrim t1 g1 w0 p1@1{1,2,3} a0 v1/0{1,2,3}{2} y- r[] o[] x{} b0" ∷
-    "3 TransPrim t1 g1 w0 p1@1{1,2,3} a0 v1/0{1,2,3}{3} y- r[] o[] x{} b0" ∷
-    "= 21" ∷
-    "1 ExchangeStates c2 g0 w0 p1@1{1,2,3} a0 v1/0{1,2,3}{1} y- r[1:1] o[] x{} b0" ∷
-    "2 ExchangeStates c2 g1 w0 p1@1{1,2,3} a0 v- y![] r[] o[] x{} b0" ∷
-    "3 ExchangeStates c2 g1 w0 p1@1{1,2,3} a0 v- y![] r[] o[] x{} b0" ∷
-    "= 23" ∷
-    "1 ExchangeActions c2 g0 w0 p1@1{1,2,3} a0 v1/0{1,2,3}{1} y- r[1:1] o[] x{} b0" ∷
-    "= 24" ∷
-    "2 ExchangeActions c2 g1 w0 p1@1{1,2,3} a0 v- y![] r[] o[] x{} b0" ∷
-    "= 25" ∷
-    "3 ExchangeActions c2 g1 w0 p1@1{1,2,3} a0 v- y![] r[] o[] x{} b0" ∷
-    "= 27" ∷
-    "1 Construct c2 g1 w0 p1@1{1,2,3} a1 v2/1{1,2,3}{1} y![] r[] o[] x{} b0" ∷
-    "= 28" ∷
-    "2 Construct c2 g1 w0 p1@1{1,2,3} a1 v2/1{1,2,3}{2} y![] r[] o[] x{} b0" ∷
-    "= 29" ∷
-    "3 Construct c2 g1 w0 p1@1{1,2,3} a1 v2/1{1,2,3}{3} y![] r[] o[] x{} b0" ∷
-    "= 31" ∷
-    "1 RegPrim c2 g1 w0 p2@2{1,2,3} a0 v2/1{1,2,3}{1} y- r[] o[] x{} b0" ∷
-    "= 32" ∷
-    "2 RegPrim c2 g1 w0 p2@2{1,2,3} a0 v2/1{1,2,3}{2} y- r[] o[] x{} b0" ∷
-    "= 33" ∷
-    "3 RegPrim c2 g1 w0 p2@2{1,2,3} a0 v2/1{1,2,3}{3} y- r[] o[] x{} b0" ∷
-    "= 35" ∷
-    "sweak 1 1 at 1" ∷
-    "end 35" ∷
-    [])
-unfolding cases_compute
-sessions_reply_lost_to_a_crash = refl
-
--- Replies of one step go to the sessions that wrote, each by itself, in the order of the replies.
-sessions_several_sessions :
-    put_by "sessions" (
-    "start 1 2 3" ∷
-    "merge 1 2 3" ∷
-    "rounds 2" ∷
-    "session 9" ∷
-    "session 2" ∷
-    "session 5" ∷
-    "swrite 9 1 put \"a\" 1" ∷
-    "swrite 2 1 put \"b\" 2" ∷
-    "request 1 put \"c\" 3" ∷
-    "swrite 9 1 put \"d\" 4" ∷
-    "rounds 1" ∷
-    "sweak 5 2 get \"d\"" ∷
-    "sweak 2 2 get \"a\"" ∷
-    "swrite 5 2 inc \"a\" 1 ? get \"a\"" ∷
-    "rounds 1" ∷
-    "sweak 9 1 count" ∷
-    "end" ∷
-    [])
-    ≡ written (
-    "= 1" ∷
-    "1 NonPrim - g0 w0 p0@0{1,2,3} a0 v- y- r[] o[] x{} b0" ∷
-    "2 NonPrim - g0 w0 p0@0{1,2,3} a0 v- y- r[] o[] x{} b0" ∷
-    "3 NonPrim - g0 w0 p0@0{1,2,3} a0 v- y- r[] o[] x{} b0" ∷
-    "= 2" ∷
-    "1 ExchangeStates c1 g0 w0 p0@0{1,2,3} a0 v- y- r[] o[] x{} b0" ∷
-    "2 ExchangeStates c1 g0 w0 p0@0{1,2,3} a0 v- y- r[] o[] x{} b0" ∷
-    "3 ExchangeStates c1 g0 w0 p0@0{1,2,3} a0 v- y- r[] o[] x{} b0" ∷
-    "= 4" ∷
-    "1 Construct c1 g0 w0 p0@0{1,2,3} a1 v1/0{1,2,3}{1} y- r[] o[] x{} b0" ∷
-    "= 5" ∷
-    "2 Construct c1 g0 w0 p0@0{1,2,3} a1 v1/0{1,2,3}{2} y- r[] o[] x{} b0" ∷
-    "= 6" ∷
-    "3 Construct c1 g0 w0 p0@0{1,2,3} a1 v1/0{1,2,3}{3} y- r[] o[] x{} b0" ∷
-    "= 8" ∷
-    "1 RegPrim c1 g0 w0 p1@1{1,2,3} a0 v1/0{1,2,3}{1} y- r[] o[] x{} b0" ∷
-    "= 9" ∷
-    "2 RegPrim c1 g0 w0 p1@1{1,2,3} a0 v1/0{1,2,3}{2} y- r[] o[] x{} b0" ∷
-    "= 10" ∷
-    "3 RegPrim c1 g0 w0 p1@1{1,2,3} a0 v1/0{1,2,3}{3} y- r[] o[] x{} b0" ∷
-    "= 14" ∷
-    "made 1:1 put \"a\" 1" ∷
-    "1 RegPrim c1 g0 w0 p1@1{1,2,3} a0 v1/0{1,2,3}{1} y- r[] o[1:1] x{} b0" ∷
-    "session 9 wrote 1:1" ∷
-    "= 15" ∷
-    "made 1:2 put \"b\" 2" ∷
-    "1 RegPrim c1 g0 w0 p1@1{1,2,3} a0 v1/0{1,2,3}{1} y- r[] o[1:1,1:2] x{} b0" ∷
-    "session 2 wrote 1:2" ∷
-    "= 16" ∷
-    "made 1:3 put \"c\" 3" ∷
-    "1 RegPrim c1 g0 w0 p1@1{1,2,3} a0 v1/0{1,2,3}{1} y- r[] o[1:1,1:2,1:3] x{} b0" ∷
-    "= 17" ∷
-    "made 1:4 put \"d\" 4" ∷
-    "1 RegPrim c1 g0 w0 p1@1{1,2,3} a0 v1/0{1,2,3}{1} y- r[] o[1:1,1:2,1:3,1:4] x{} b0" ∷
-    "session 9 wrote 1:4" ∷
-    "= 19" ∷
-    "order 1 1:1" ∷
-    "order 2 1:2" ∷
-    "order 3 1:3" ∷
-    "order 4 1:4" ∷
-    "1 RegPrim c1 g4 w0 p1@1{1,2,3} a0 v1/0{1,2,3}{1} y- r[] o[] x{} b0" ∷
-    "reply 1:1 done" ∷
-    "reply 1:2 done" ∷
-    "reply 1:3 done" ∷
-    "reply 1:4 done" ∷
-    "session 9 at 1" ∷
-    "session 2 at 2" ∷
-    "session 9 at 4" ∷
-    "= 20" ∷
-    "2 RegPrim c1 g4 w0 p1@1{1,2,3} a0 v1/0{1,2,3}{2} y- r[] o[] x{} b0" ∷
-    "= 21" ∷
-    "3 RegPrim c1 g4 w0 p1@1{1,2,3} a0 v1/0{1,2,3}{3} y- r[] o[] x{} b0" ∷
-    "= 22" ∷
-    "sweak 5 4 at 4" ∷
-    "= 23" ∷
-    "sweak 2 1 at 4" ∷
-    "= 24" ∷
-    "made 2:1 inc \"a\" 1 ? get \"a\"" ∷
-    "2 RegPrim c1 g4 w0 p1@1{1,2,3} a0 v1/0{1,2,3}{2} y- r[] o[2:1] x{} b0" ∷
-    "session 5 wrote 2:1" ∷
-    "= 26" ∷
-    "order 5 2:1" ∷
-    "1 RegPrim c1 g5 w0 p1@1{1,2,3} a0 v1/0{1,2,3}{1} y- r[] o[] x{} b0" ∷
-    "= 27" ∷
-    "2 RegPrim c1 g5 w0 p1@1{1,2,3} a0 v1/0{1,2,3}{2} y- r[] o[] x{} b0" ∷
-    "reply 2:1 done ? 2" ∷
-    "session 5 at 5" ∷
-    "= 28" ∷
-    "3 RegPrim c1 g5 w0 p1@1{1,2,3} a0 v1/0{1,2,3}{3} y- r[] o[] x{} b0" ∷
-    "= 29" ∷
-    "sweak 9 count 4 at 5" ∷
-    "end 29" ∷
-    [])
-unfolding cases_compute
-sessions_several_sessions = refl
-
--- An armed stop that a write does not reach strikes the next one.
-sessions_stop_past_a_write :
-    put_by "sessions" (
-    "start 1 2 3" ∷
-    "merge 1 2 3" ∷
-    "rounds 2" ∷
-    "session 1" ∷
-    "stop 2 5 01" ∷
-    "swrite 1 2 put \"x\" 1" ∷
-    "swrite 1 2 put \"x\" 2" ∷
-    "recover 2" ∷
-    "split 1 3" ∷
-    "merge 1 2 3" ∷
-    "rounds 4" ∷
-    "sweak 1 1 get \"x\"" ∷
-    "end" ∷
-    [])
-    ≡ written (
-    "= 1" ∷
-    "1 NonPrim - g0 w0 p0@0{1,2,3} a0 v- y- r[] o[] x{} b0" ∷
-    "2 NonPrim - g0 w0 p0@0{1,2,3} a0 v- y- r[] o[] x{} b0" ∷
-    "3 NonPrim - g0 w0 p0@0{1,2,3} a0 v- y- r[] o[] x{} b0" ∷
-    "= 2" ∷
-    "1 ExchangeStates c1 g0 w0 p0@0{1,2,3} a0 v- y- r[] o[] x{} b0" ∷
-    "2 ExchangeStates c1 g0 w0 p0@0{1,2,3} a0 v- y- r[] o[] x{} b0" ∷
-    "3 ExchangeStates c1 g0 w0 p0@0{1,2,3} a0 v- y- r[] o[] x{} b0" ∷
-    "= 4" ∷
-    "1 Construct c1 g0 w0 p0@0{1,2,3} a1 v1/0{1,2,3}{1} y- r[] o[] x{} b0" ∷
-    "= 5" ∷
-    "2 Construct c1 g0 w0 p0@0{1,2,3} a1 v1/0{1,2,3}{2} y- r[] o[] x{} b0" ∷
-    "= 6" ∷
-    "3 Construct c1 g0 w0 p0@0{1,2,3} a1 v1/0{1,2,3}{3} y- r[] o[] x{} b0" ∷
-    "= 8" ∷
-    "1 RegPrim c1 g0 w0 p1@1{1,2,3} a0 v1/0{1,2,3}{1} y- r[] o[] x{} b0" ∷
-    "= 9" ∷
-    "2 RegPrim c1 g0 w0 p1@1{1,2,3} a0 v1/0{1,2,3}{2} y- r[] o[] x{} b0" ∷
-    "= 10" ∷
-    "3 RegPrim c1 g0 w0 p1@1{1,2,3} a0 v1/0{1,2,3}{3} y- r[] o[] x{} b0" ∷
-    "= 13" ∷
-    "made 2:1 put \"x\" 1" ∷
-    "2 RegPrim c1 g0 w0 p1@1{1,2,3} a0 v1/0{1,2,3}{2} y- r[] o[2:1] x{} b0" ∷
-    "session 1 wrote 2:1" ∷
-    "= 14" ∷
-    "2 Down" ∷
-    "= 15" ∷
-    "2 NonPrim - g0 w0 p1@1{1,2,3} a0 v1/0{1,2,3}{2} y- r[2:1] o[] x{} b0" ∷
-    "= 16" ∷
-    "1 TransPrim t1 g0 w0 p1@1{1,2,3} a0 v1/0{1,2,3}{1} y- r[] o[] x{} b0" ∷
-    "3 TransPrim t1 g0 w0 p1@1{1,2,3} a0 v1/0{1,2,3}{3} y- r[] o[] x{} b0" ∷
-    "= 17" ∷
-    "1 ExchangeStates c2 g0 w0 p1@1{1,2,3} a0 v- y![] r[] o[] x{} b0" ∷
-    "2 ExchangeStates c2 g0 w0 p1@1{1,2,3} a0 v1/0{1,2,3}{2} y- r[2:1] o[] x{} b0" ∷
-    "3 ExchangeStates c2 g0 w0 p1@1{1,2,3} a0 v- y![] r[] o[] x{} b0" ∷
-    "= 19" ∷
-    "1 ExchangeActions c2 g0 w0 p1@1{1,2,3} a0 v- y![] r[] o[] x{} b0" ∷
-    "= 20" ∷
-    "2 ExchangeActions c2 g0 w0 p1@1{1,2,3} a0 v1/0{1,2,3}{2} y- r[2:1] o[] x{} b0" ∷
-    "= 21" ∷
-    "3 ExchangeActions c2 g0 w0 p1@1{1,2,3} a0 v- y![] r[] o[] x{} b0" ∷
-    "= 23" ∷
-    "1 Construct c2 g0 w0 p1@1{1,2,3} a1 v2/1{1,2,3}{1} y![] r[2:1] o[] x{} b0" ∷
-    "= 24" ∷
-    "2 Construct c2 g0 w0 p1@1{1,2,3} a1 v2/1{1,2,3}{2} y![] r[2:1] o[] x{} b0" ∷
-    "= 25" ∷
-    "3 Construct c2 g0 w0 p1@1{1,2,3} a1 v2/1{1,2,3}{3} y![] r[2:1] o[] x{} b0" ∷
-    "= 27" ∷
-    "order 1 2:1" ∷
-    "1 RegPrim c2 g1 w0 p2@2{1,2,3} a0 v2/1{1,2,3}{1} y- r[] o[] x{} b0" ∷
-    "= 28" ∷
-    "2 RegPrim c2 g1 w0 p2@2{1,2,3} a0 v2/1{1,2,3}{2} y- r[] o[] x{} b0" ∷
-    "= 29" ∷
-    "3 RegPrim c2 g1 w0 p2@2{1,2,3} a0 v2/1{1,2,3}{3} y- r[] o[] x{} b0" ∷
-    "= 31" ∷
-    "sweak 1 1 at 1" ∷
-    "end 31" ∷
-    [])
-unfolding cases_compute
-sessions_stop_past_a_write = refl
-
--- A write struck after its commit is made at the recovery and ordered, but the session does not own it.
-sessions_struck_write_after_its_commit :
-    put_by "sessions" (
-    "start 1 2 3" ∷
-    "merge 1 2 3" ∷
-    "rounds 2" ∷
-    "session 1" ∷
-    "stop 1 3 01" ∷
-    "swrite 1 1 put \"x\" 1" ∷
-    "recover 1" ∷
-    "split 2 3" ∷
-    "merge 1 2 3" ∷
-    "rounds 4" ∷
-    "sweak 1 2 get \"x\"" ∷
-    "swrite 1 1 inc \"x\" 2" ∷
-    "rounds 1" ∷
-    "sweak 1 3 get \"x\"" ∷
-    "end" ∷
-    [])
-    ≡ written (
-    "= 1" ∷
-    "1 NonPrim - g0 w0 p0@0{1,2,3} a0 v- y- r[] o[] x{} b0" ∷
-    "2 NonPrim - g0 w0 p0@0{1,2,3} a0 v- y- r[] o[] x{} b0" ∷
-    "3 NonPrim - g0 w0 p0@0{1,2,3} a0 v- y- r[] o[] x{} b0" ∷
-    "= 2" ∷
-    "1 ExchangeStates c1 g0 w0 p0@0{1,2,3} a0 v- y- r[] o[] x{} b0" ∷
-    "2 ExchangeStates c1 g0 w0 p0@0{1,2,3} a0 v- y- r[] o[] x{} b0" ∷
-    "3 ExchangeStates c1 g0 w0 p0@0{1,2,3} a0 v- y- r[] o[] x{} b0" ∷
-    "= 4" ∷
-    "1 Construct c1 g0 w0 p0@0{1,2,3} a1 v1/0{1,2,3}{1} y- r[] o[] x{} b0" ∷
-    "= 5" ∷
-    "2 Construct c1 g0 w0 p0@0{1,2,3} a1 v1/0{1,2,3}{2} y- r[] o[] x{} b0" ∷
-    "= 6" ∷
-    "3 Construct c1 g0 w0 p0@0{1,2,3} a1 v1/0{1,2,3}{3} y- r[] o[] x{} b0" ∷
-    "= 8" ∷
-    "1 RegPrim c1 g0 w0 p1@1{1,2,3} a0 v1/0{1,2,3}{1} y- r[] o[] x{} b0" ∷
-    "= 9" ∷
-    "2 RegPrim c1 g0 w0 p1@1{1,2,3} a0 v1/0{1,2,3}{2} y- r[] o[] x{} b0" ∷
-    "= 10" ∷
-    "3 RegPrim c1 g0 w0 p1@1{1,2,3} a0 v1/0{1,2,3}{3} y- r[] o[] x{} b0" ∷
-    "= 13" ∷
-    "1 Down" ∷
-    "= 14" ∷
-    "made 1:1 put \"x\" 1" ∷
-    "1 NonPrim - g0 w0 p1@1{1,2,3} a0 v1/0{1,2,3}{1} y- r[1:1] o[] x{} b0" ∷
-    "= 15" ∷
-    "2 TransPrim t1 g0 w0 p1@1{1,2,3} a0 v1/0{1,2,3}{2} y- r[] o[] x{} b0" ∷
-    "3 TransPrim t1 g0 w0 p1@1{1,2,3} a0 v1/0{1,2,3}{3} y- r[] o[] x{} b0" ∷
-    "= 16" ∷
-    "1 ExchangeStates c2 g0 w0 p1@1{1,2,3} a0 v1/0{1,2,3}{1} y- r[1:1] o[] x{} b0" ∷
-    "2 ExchangeStates c2 g0 w0 p1@1{1,2,3} a0 v- y![] r[] o[] x{} b0" ∷
-    "3 ExchangeStates c2 g0 w0 p1@1{1,2,3} a0 v- y![] r[] o[] x{} b0" ∷
-    "= 18" ∷
-    "1 ExchangeActions c2 g0 w0 p1@1{1,2,3} a0 v1/0{1,2,3}{1} y- r[1:1] o[] x{} b0" ∷
-    "= 19" ∷
-    "2 ExchangeActions c2 g0 w0 p1@1{1,2,3} a0 v- y![] r[] o[] x{} b0" ∷
-    "= 20" ∷
-    "3 ExchangeActions c2 g0 w0 p1@1{1,2,3} a0 v- y![] r[] o[] x{} b0" ∷
-    "= 22" ∷
-    "1 Construct c2 g0 w0 p1@1{1,2,3} a1 v2/1{1,2,3}{1} y![] r[1:1] o[] x{} b0" ∷
-    "= 23" ∷
-    "2 Construct c2 g0 w0 p1@1{1,2,3} a1 v2/1{1,2,3}{2} y![] r[1:1] o[] x{} b0" ∷
-    "= 24" ∷
-    "3 Construct c2 g0 w0 p1@1{1,2,3} a1 v2/1{1,2,3}{3} y![] r[1:1] o[] x{} b0" ∷
-    "= 26" ∷
-    "order 1 1:1" ∷
-    "1 RegPrim c2 g1 w0 p2@2{1,2,3} a0 v2/1{1,2,3}{1} y- r[] o[] x{} b0" ∷
-    "= 27" ∷
-    "2 RegPrim c2 g1 w0 p2@2{1,2,3} a0 v2/1{1,2,3}{2} y- r[] o[] x{} b0" ∷
-    "= 28" ∷
-    "3 RegPrim c2 g1 w0 p2@2{1,2,3} a0 v2/1{1,2,3}{3} y- r[] o[] x{} b0" ∷
-    "= 30" ∷
-    "sweak 1 1 at 1" ∷
-    "= 31" ∷
-    "made 1:2 inc \"x\" 2" ∷
-    "1 RegPrim c2 g1 w0 p2@2{1,2,3} a0 v2/1{1,2,3}{1} y- r[] o[1:2] x{} b0" ∷
-    "session 1 wrote 1:2" ∷
-    "= 33" ∷
-    "order 2 1:2" ∷
-    "1 RegPrim c2 g2 w0 p2@2{1,2,3} a0 v2/1{1,2,3}{1} y- r[] o[] x{} b0" ∷
-    "reply 1:2 done" ∷
-    "session 1 at 2" ∷
-    "= 34" ∷
-    "2 RegPrim c2 g2 w0 p2@2{1,2,3} a0 v2/1{1,2,3}{2} y- r[] o[] x{} b0" ∷
-    "= 35" ∷
-    "3 RegPrim c2 g2 w0 p2@2{1,2,3} a0 v2/1{1,2,3}{3} y- r[] o[] x{} b0" ∷
-    "= 36" ∷
-    "sweak 1 3 at 2" ∷
-    "end 36" ∷
-    [])
-unfolding cases_compute
-sessions_struck_write_after_its_commit = refl

@@ -32,7 +32,7 @@ use Rattle.cg_group.specs.Ready.{all_received, ready_in}
 use Rattle.cg_group.specs.Refusals.{order_refusal, receive_refusal, deliver_refusal, split_refusal, merge_refusal}
 use Rattle.cg_group.specs.State.{standing_of, configuration, has_received, set_standing, set_configuration}
 use Rattle.cg_schedule.specs.Command.{put_reading as put_reading_of_schedule_command, del_reading as del_reading_of_schedule_command, inc_reading as inc_reading_of_schedule_command, cas_reading as cas_reading_of_schedule_command, move_reading as move_reading_of_schedule_command, need_reading as need_reading_of_schedule_command, command_of, query_of, query_reading as query_reading_of_schedule_command, with_query, commands, update_of, update_reading as update_reading_of_schedule_command}
-use Rattle.cg_schedule.specs.Line.{word_of, opening, ids, weights, start_reading, split_reading, merge_reading, request_reading, weak_reading, dirty_reading, order_reading, recover_reading, show_reading, receive_reading, deliver_reading, rounds_reading, stop_reading, fail_reading, join_reading, leave_reading, transfer_reading, event_reading}
+use Rattle.cg_schedule.specs.Line.{word_of, opening, ids, weights, start_reading, split_reading, merge_reading, request_reading, weak_reading, dirty_reading, order_reading, recover_stopped_reading, recover_reading, downgrade_reading, show_reading, receive_reading, deliver_reading, rounds_reading, stop_reading, fail_reading, join_reading, leave_reading, transfer_reading, event_reading}
 use Rattle.cg_schedule.specs.Part.{number, integer, amount, weighted, text as text_of_schedule_part, value, want, fill, number_part, id_part, count_part, integer_part, amount_part, weighted_part, text_part, value_part, want_part, fill_part}
 use Rattle.cg_client.specs.Install.{install}
 use Rattle.cg_client.specs.Marks.{is_unmade, mark_red, mark_yellow, can_be_green, place_green, mark_green}
@@ -52,6 +52,9 @@ use Rattle.cg_disk_records.specs.Stored.{whiten, recovery_turn}
 use Rattle.cg_disk_records.specs.Following.{after_change}
 use Rattle.cg_disk_records.specs.Commit.{same_values, commits}
 use Rattle.cg_disk_records.specs.Crash.{with_change, with_checkpoint, crash_outcome, end_event}
+use Rattle.cg_disk_records.specs.Recovery.{recovery_outcome}
+use Rattle.cg_older.specs.Bytes.{spelled_old_prim, spelled_old_stable, spelled_old_server, spelled_old_reached, spelled_old_parts, spelled_old_checkpoint}
+use Rattle.cg_older.specs.Older.{has_weights}
 use Rattle.cg_model.specs.ReplicaStep.{on_message, on_transitional, on_regular, after_delivery, replica_step}
 use Rattle.cg_model.specs.Admission.{first_refusal}
 use Rattle.cg_model.specs.Show.{ended}
@@ -141,10 +144,10 @@ unfolding put_reading_of_schedule_command del_reading_of_schedule_command inc_re
     cas_reading_of_schedule_command move_reading_of_schedule_command need_reading_of_schedule_command command_of
     query_of query_reading_of_schedule_command with_query commands update_of update_reading_of_schedule_command word_of
     opening ids weights start_reading split_reading merge_reading request_reading weak_reading dirty_reading
-    order_reading recover_reading show_reading receive_reading deliver_reading rounds_reading stop_reading fail_reading
-    join_reading leave_reading transfer_reading event_reading number integer amount weighted text_of_schedule_part value
-    want fill number_part id_part count_part integer_part amount_part weighted_part text_part
-    value_part want_part fill_part
+    order_reading recover_stopped_reading recover_reading downgrade_reading show_reading receive_reading deliver_reading
+    rounds_reading stop_reading fail_reading join_reading leave_reading transfer_reading event_reading number integer
+    amount weighted text_of_schedule_part value want fill number_part id_part count_part integer_part amount_part
+    weighted_part text_part value_part want_part fill_part
 schedule_computes = tt
 
 unfoldable pub follow_computes : ⊤
@@ -189,9 +192,14 @@ unfolding spelled_change after_change spelled_server spelled_entry spelled_reach
     checkpoint_reading whiten recovery_turn
 stored_computes = tt
 
+unfoldable pub older_computes : ⊤
+unfolding spelled_old_prim spelled_old_stable spelled_old_server spelled_old_reached spelled_old_parts spelled_old_checkpoint
+    has_weights
+older_computes = tt
+
 unfoldable pub step_computes : ⊤
-unfolding same_values commits with_change with_checkpoint crash_outcome end_event on_message on_transitional
-    on_regular after_delivery replica_step
+unfolding same_values commits with_change with_checkpoint crash_outcome end_event recovery_outcome on_message
+    on_transitional on_regular after_delivery replica_step
 step_computes = tt
 
 unfoldable pub agree_computes : ⊤
@@ -205,6 +213,6 @@ run_computes = tt
 unfoldable pub cases_compute : ⊤
 unfolding std_computes json_computes base_computes text_computes codec_computes action_computes db_computes vote_computes
     queue_computes records_computes knowledge_computes plan_computes wire_computes group_computes schedule_computes
-    client_computes prim_computes exchange_computes construct_computes stored_computes step_computes
+    client_computes prim_computes exchange_computes construct_computes stored_computes older_computes step_computes
     agree_computes follow_computes session_computes relaxed_computes compare_computes run_computes
 cases_compute = tt
