@@ -121,9 +121,14 @@ def kinds_of_lines(lines: list[Line]) -> Iterator[tuple[Kind, int]]:
             yield from ((("split", number), index) for number in line.numbers)
         elif line.word == "stop" and line.numbers[1] == 0:
             yield ("down", line.numbers[0]), index
-        elif line.word in EVENTS:
+        elif line.word in EVENTS and not is_stopped_recovery(line):
             word, part = EVENTS[line.word]
             yield (word, line.numbers[part]), index
+
+
+def is_stopped_recovery(line: Line) -> bool:
+    """A stop is armed for the recovery: where it strikes, the step shows nothing."""
+    return line.word == "recover" and len(line.numbers) > 1
 
 
 def kinds_of_steps(steps: list[Step]) -> Iterator[tuple[Kind, int]]:

@@ -7,7 +7,7 @@ from dataclasses import dataclass, replace
 from typing import NamedTuple
 
 from .report import Replica, Step
-from .schedule import Line, Passage, leading_number
+from .schedule import Line, Passage, is_stopped_recovery, leading_number
 
 HERE = pathlib.Path(__file__).resolve().parent
 WORDS = tomllib.loads((HERE / "words.toml").read_text(encoding="utf-8"))
@@ -80,6 +80,11 @@ class Story:
         line = passage.lines[0] if passage and len(passage.lines) == 1 else None
         if line and line.word in ("stop", "fail", "fstop") and line.numbers[1]:  # arming shows nothing in the report
             yield armed(line)
+        if line and line.word == "downgrade":
+            number = line.numbers[0]
+            yield Mark(number, "note", "older disk", f"Replica {number} gets a disk of the older format")
+        if line and is_stopped_recovery(line) and line.numbers[0] not in step.replicas:
+            yield stopped(line)
         for word, rest in step.told:
             yield further(line, f"{word} {rest}") or self.told(word, rest)
 
@@ -130,6 +135,13 @@ def armed(line: Line) -> Mark:
     does = "fail at" if line.word == "fail" else "stop inside"
     words = f"{who} {number} will {does} its device call {call} from now on"
     return Mark(0, "", "", words) if line.word == "fstop" else Mark(number, "armed", "", words)
+
+
+def stopped(line: Line) -> Mark:
+    """A recovery that its stop has struck."""
+    number, call = line.numbers[:2]
+    words = f"Replica {number} crashes in its recovery, inside device call {call}, and stays down"
+    return Mark(number, "crash", "", words)
 
 
 def further(line: Line | None, told: str) -> Mark | None:

@@ -127,6 +127,15 @@ class Stories(unittest.TestCase):
         self.assertEqual(found, [[(1, "armed", "")], [(1, "crash", "")], [(1, "back", "")]])
         self.assertEqual(columns["2"].marks[0].words, "Replica 1 will stop inside its device call 3 from now on")
 
+    def test_a_recovery_is_stopped_on_an_older_disk(self) -> None:
+        columns = told("older-disk")
+        found = [chips(columns[step]) for step in ("18", "19", "20")]
+        self.assertEqual(found, [[(1, "note", "older disk")], [(1, "crash", "")], [(1, "crash", "")]])
+        self.assertEqual(chips(columns["21"])[0], (1, "back", ""))
+        words = "Replica 1 crashes in its recovery, inside device call 12, and stays down"
+        self.assertEqual(columns["20"].marks[0].words, words)
+        self.assertIn(("recover 1 12 01", 20, 20), spans("older-disk"))
+
     def test_states_are_told_in_words(self) -> None:
         columns = told("partition")
         words = [columns[step].marks[0].words for step in ("16", "18", "20")]

@@ -127,6 +127,10 @@ class Spelled(unittest.TestCase):
         lines = ["start 1 2", "heal", "stop 2 3 01", 'request 2 put "y" 2', "back 2", "heal"]
         self.assertEqual(spelled(*lines)[4:], ["recover 2", "split 1", "merge 1 2"])
 
+    def test_a_recovery_with_a_device_call_counts_as_a_crash(self) -> None:
+        lines = ["start 1 2", "crash 2", "downgrade 2", "recover 2 3 00", "recover 2 x", "heal", "back 2", "heal"]
+        self.assertEqual(spelled(*lines)[2:], [*lines[2:5], "merge 1", "recover 2", "split 1", "merge 1 2"])
+
     def test_passes_settle_with_those_that_are_away_or_joined(self) -> None:
         self.assertEqual(spelled("start 1 2 3", "crash 1", "settle")[2:], ["rounds 7"])
         self.assertEqual(spelled("start 1 2 3", "join 1 4*2", "settle")[2:], ["rounds 8"])
