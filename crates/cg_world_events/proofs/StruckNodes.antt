@@ -166,12 +166,18 @@ module _ (w : World) (nodes : List Node) (p : ℕ) (s : Node) (there : node_of w
   made-old (Up r disk) low = absurd (let clash : true ≡ false = low in cc)
   made-old (Down disk green) low = ap (λ list. record w { nodes = list }) (again (record { id = p; life = Down (old_disk disk.content) green }) refl)
 
-  pub old-made : hosted (record w { nodes = nodes }) (downgraded s.id s.life) ≡ downgrade w p
+  old-made : hosted (record w { nodes = nodes }) (downgraded s.id s.life) ≡ downgrade w p
   old-made =
       let low : is_some (running s.life) ≡ false = subst (λ o. is_some (option_and_then (λ (s : Node). running s.life) o) ≡ false) there down in
       ap (λ n. hosted (record w { nodes = nodes }) (downgraded n s.life)) (found-id w.nodes p s there)
       ∙ made-old s.life low
       ∙ sym (ap (λ o. option_map_or (λ (s : Node). downgrade_at w p s.life) o w) there)
+
+  -- and so it does where memory isn't refused
+  pub old-done : (t : Node) → t ≡ downgraded s.id s.life → {T E : Type 0} (result : Result T E) (list : List Node) →
+      OnOk result (list ≡ with_node nodes t) → OnOk result (record w { nodes = list } ≡ downgrade w p)
+  old-done t is (Ok x) list put = ap (λ l. record w { nodes = l }) put ∙ ap (hosted (record w { nodes = nodes })) is ∙ old-made
+  old-done t is (Err e) list put = tt
 
 -- no weight stands on the disk of a replica that isn't refused for one
 weighs-on : (life : NodeState) → has_weights (node_disk life).content ≡ false → weighs life ≡ false
