@@ -39,6 +39,7 @@ use Rattle.cg_knowledge.specs.Summaries.{remaining}
 use Rattle.cg_queue.specs.Queue.{green_count}
 use Rattle.cg_client.specs.Replica.{Held, Replica, NonPrim, fresh_held}
 use Rattle.cg_disk_records.specs.Crash.{Disk, new_disk}
+use Rattle.cg_disk_records.specs.Format.{all_newer}
 use Rattle.cg_model.specs.World.{NodeState, Up, Down, Node, World, no_world, replica_of}
 use Rattle.cg_model.specs.Run.{Step}
 use Rattle.cg_model.specs.Shown.{made_actions}
@@ -115,7 +116,7 @@ holding_at orders greens h = record (holding h) { entry = record no_entry { orde
 
 -- a disk that has so much
 abbrev disk_with : Held → Disk
-disk_with h = record { content = h; unwritten = []; size = 0; generation = 1; armed = None }
+disk_with h = record { content = h; unwritten = []; size = 0; generation = 1; format = all_newer; armed = None }
 
 -- a step that shows these orders and so many greens of a replica, behind which it is down, with so much on its disk, and these names are to
 -- be shown at its recovery
