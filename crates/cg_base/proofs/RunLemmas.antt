@@ -3,7 +3,7 @@ use Rattle.std.proofs.Common.{◌≡◌, ℕ, zero, suc, ◌+◌, ◌-◌, ◌<�
 use Rattle.std.specs.Bool.{Decides}
 use Rattle.std.specs.List.{All, flat_map}
 use Rattle.std.specs.Cmp.Lexicographic.{pointwise, pointwise_decides}
-use Rattle.std.proofs.lemmas.Bool.{cases_Bool, eq-eqb, eqb-true, and_parts, and_from, false_from_ne_true}
+use Rattle.std.proofs.lemmas.Bool.{cases_Bool, eq-eqb, ne_eqb, eqb-true, and_parts, and_from, false_from_ne_true}
 use Rattle.std.proofs.lemmas.List.{map-append, append-nil, set_at, take_more, take_all, length-take-le}
 use Rattle.std.proofs.lemmas.List.Concat.{flat_map-append}
 use Rattle.std.proofs.lemmas.List.Elements.{All-nil, All-cons, All-append}
@@ -12,9 +12,15 @@ use Rattle.cg_base.specs.declared.id_runs.IdRun.{IdRun}
 use Rattle.cg_base.specs.Lists.{count_up, above_up_to}
 use Rattle.cg_base.specs.Ids.{same_id}
 use Rattle.cg_base.proofs.CutLemmas.{same_id-Decides}
-use Rattle.cg_base.specs.Text.{id_text, with_commas}
+use Rattle.cg_base.specs.Text.{id_text, with_commas, is_nil}
 use Rattle.cg_base.specs.IdRuns.{names_above, ids_of, ids_in, goes_on, Ends, AreRuns, AreOfReplicas}
 use Rattle.cg_base.specs.Sets.{IsId}
+
+-- ---- no run
+
+pub none-is_nil : (runs : List IdRun) → eqb (length runs) 0 ≡ is_nil (ids_in runs)
+none-is_nil [] = refl
+none-is_nil (r ∷ runs) = ne_eqb (length (r ∷ runs)) 0 (λ e. omega arith)
 
 -- ---- one run more
 

@@ -72,8 +72,8 @@ impl Cut {
         self.indexes[usize::from(id.get() - 1)]
     }
 
-    /// Says what every cut is, as `get` does, where no index is asked for.
-    pub fn ascends(&self)
+    /// What always holds of a cut.
+    pub fn holds(&self)
         ensures { IsCut self.now }
     {
         let _ = &self.indexes;

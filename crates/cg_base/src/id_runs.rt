@@ -37,6 +37,7 @@ impl IdRuns {
     ghost use Rattle.std.specs.List.{All};
     ghost use Rattle.cg_base.specs.IdRuns.{names_above};
     ghost use Rattle.cg_base.specs.Sets.{IsId};
+    ghost use Rattle.cg_base.specs.Text.{is_nil};
 
     pub fn new(alloc: Global) -> IdRuns
         ensures { result ≡ [] }
@@ -44,6 +45,12 @@ impl IdRuns {
         IdRuns {
             runs: Vec::new(alloc),
         }
+    }
+
+    pub fn is_empty(&self) -> bool
+        ensures { result ≡ is_nil self.now }
+    {
+        self.runs.as_slice().is_empty()
     }
 
     /// Puts a name at the end.
@@ -149,7 +156,7 @@ fn creators_fit(runs: &[IdRun])
     ensures { AreOfReplicas runs.now }
 {
     for run in runs {
-        let _creator = run.creator.get();
+        run.creator.holds();
     }
 }
 

@@ -91,6 +91,13 @@ impl IdSet {
         (self.word >> slot) & 1 == 1
     }
 
+    /// What always holds of a set.
+    pub fn holds(&self)
+        ensures { IsSet self.now }
+    {
+        let _ = &self.word;
+    }
+
     pub fn union(&self, o: &IdSet) -> IdSet
         ensures { result ≡ union self.now o.now }
     {

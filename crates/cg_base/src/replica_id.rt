@@ -54,4 +54,11 @@ impl ReplicaId {
     {
         self.number
     }
+
+    /// What always holds of an identifier.
+    pub fn holds(&self)
+        ensures { IsId self.now }
+    {
+        let _ = &self.number;
+    }
 }

@@ -91,6 +91,13 @@ impl WeightSet {
         self.weights[usize::from(id.get() - 1)]
     }
 
+    /// What always holds of a set with weights.
+    pub fn holds(&self)
+        ensures { IsWeightSet self.now }
+    {
+        let _ = &self.weights;
+    }
+
     pub fn contains(&self, id: ReplicaId) -> bool
         ensures { result ≡ has (ids self.now) id }
     {

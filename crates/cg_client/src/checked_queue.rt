@@ -189,7 +189,7 @@ impl CheckedQueue {
         ensures small { IsSmallCut self.now.red_cut }
     {
         let cut = self.queue.red_cut();
-        cut.ascends();
+        cut.holds();
         cut
     }
 
@@ -206,7 +206,7 @@ impl CheckedQueue {
         ensures small { IsSmallCut self.now.green_cut }
     {
         let cut = self.queue.green_cut();
-        cut.ascends();
+        cut.holds();
         cut
     }
 

@@ -52,7 +52,7 @@ pub(crate) fn empty_body(alloc: Global, white: u64, cut: Cut) -> Body
     ensures parts { parts_of result ≡ no_parts white cut }
     ensures cut { IsCut cut }
 {
-    cut.ascends();
+    cut.holds();
     Body {
         white,
         greens: VecDeque::new(alloc),

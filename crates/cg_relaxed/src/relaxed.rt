@@ -59,7 +59,7 @@ impl Relaxed {
         let cmds = copy_all(self.alloc, counted(&a.kind))?;
         self.sums.reserve(cmds.len())?;
         self.registers.reserve(cmds.len())?;
-        self.known.ascends();
+        self.known.holds();
         run_each(&mut self.sums, &mut self.registers, first_stamp(a), cmds);
         self.known.raise(a.id.creator, a.id.index);
         Ok(())
@@ -76,8 +76,8 @@ impl Relaxed {
     pub fn join(&self, o: &Relaxed) -> Result<Relaxed, NoMemory>
         ensures { IfOk result (λ r. seen r ≡ joined (seen self.now) (seen o.now)) }
     {
-        self.known.ascends();
-        o.known.ascends();
+        self.known.holds();
+        o.known.holds();
         let mut sums = IndexMap::new(self.alloc);
         take_over(
             self.alloc,

@@ -152,8 +152,8 @@ fn is_wanted(known: &Cut, other: &Cut, less: bool, creator: u8) -> bool
 fn knows_less(known: &Cut, other: &Cut, creator: u8) -> bool
     ensures { result ≡ knows_less known.now other.now creator }
 {
-    known.ascends();
-    other.ascends();
+    known.holds();
+    other.holds();
     match ReplicaId::new(creator) {
         Some(p) => known.get(p) < other.get(p),
         None => false,

@@ -30,7 +30,7 @@ invariant_of-self-2 c =
     let each : All IsCommand cmds = subst (λ (cs : List Cmd). All IsCommand cs) (sym are) (counted-each a.kind c.requires.action.kind) in
     let next : a.id.index ≡ suc (index_in c.self.inside.known a.id.creator) =
     c.requires.next ∙ ap (λ (k : RelaxedState). suc (index_in k.known a.id.creator)) (sym c.self.view_is) in
-    small-added old new a cmds few each c.raise.ensures sums c.ascends.ensures next c.requires.small c.self.invariant
+    small-added old new a cmds few each c.raise.ensures sums c.holds.ensures next c.requires.small c.self.invariant
 
 pub returns-clause-ok : goal.returns-clause-ok
 returns-clause-ok c =

@@ -12,7 +12,7 @@ invariant_of-result c =
     let empty : c.new-sums.result.entries ≡ [] = search rules in
     subst (λ (cut : List ActionId). AreSmall cut c.take_over-2.new.to.entries) (sym c.greatest.ensures)
     (small-joined mine other c.new-sums.result.entries c.take_over.new.to.entries c.take_over-2.new.to.entries empty
-    c.in_ok-take_over.ensures c.in_ok-take_over-2.ensures c.ascends.ensures c.ascends-2.ensures c.self.invariant c.o.invariant)
+    c.in_ok-take_over.ensures c.in_ok-take_over-2.ensures c.holds.ensures c.holds-2.ensures c.self.invariant c.o.invariant)
 
 pub returns : goal.returns
 returns c =
