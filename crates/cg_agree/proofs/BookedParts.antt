@@ -5,7 +5,7 @@ use Rattle.std.specs.Option.{option_map_or, option_to_list}
 use Rattle.std.proofs.lemmas.Bool.{cond_both}
 use Rattle.cg_base.specs.declared.action_id.ActionId.{ActionId}
 use Rattle.cg_base.specs.Cuts.{index_in}
-use Rattle.cg_base.specs.Ids.{names, same_id, id_before}
+use Rattle.cg_base.specs.Ids.{has_name, same_id, id_before}
 use Rattle.cg_base.specs.Sets.{has, is_within}
 use Rattle.cg_action.specs.declared.action.Action.{Action}
 use Rattle.cg_queue.specs.Queue.{QueueView, Marks, Gaps, names_of, action_of, green_count, with_red, marked_red, placed_red}
@@ -99,7 +99,7 @@ pub record QueueBooked (c : Chronicle) (q : QueueView) : Type 0 where
 
 -- the parts are of what is held
 pub parts-booked : (c : Chronicle) (h : Held) → QueueBooked c h.queue → AreBooked c (valid_yellow h) × AreBooked c (plain_reds h.queue)
-parts-booked c h is = (yellow h.yellow_valid, booked-filter c (λ a. not (names h.queue.yellow a.id)) h.queue.reds is.reds) where
+parts-booked c h is = (yellow h.yellow_valid, booked-filter c (λ a. not (has_name h.queue.yellow a.id)) h.queue.reds is.reds) where
   yellow : (b : Bool) → AreBooked c (cond b (actions_named h.queue h.queue.yellow) [])
   yellow true = booked-named c h.queue h.queue.yellow (booked-both c h.queue.greens h.queue.reds is.greens is.reds)
   yellow false = tt

@@ -6,7 +6,7 @@ use Rattle.std.proofs.lemmas.List.{map-append}
 use Rattle.std.proofs.lemmas.List.Sums.{fold-append}
 use Rattle.cg_base.specs.declared.action_id.ActionId.{ActionId}
 use Rattle.cg_base.specs.Cuts.{index_in, raise}
-use Rattle.cg_base.specs.Ids.{names}
+use Rattle.cg_base.specs.Ids.{has_name}
 use Rattle.cg_action.specs.declared.action.Action.{Action}
 use Rattle.cg_action.specs.declared.query.Query.{Query}
 use Rattle.cg_action.specs.declared.entry.DbEntry.{DbEntry}
@@ -72,7 +72,7 @@ module _ (steps : List Step) (c : Chronicle) (w : World) (stands : StandsBeside 
   shown-each : (list : List Action) → Each (IsNamed c.book) list → Each (λ (a : Action). a.id.index ≤ index_in w.made a.id.creator) list → Each (λ id. 1 ≤ id.index) (names_of list) → Each Is list
   shown-each [] booked low some = tt
   shown-each (a ∷ list) booked low some =
-      let name : names (made_names steps) a.id ≡ true = made-told steps c w told a.id some.0 ∙ le-leb a.id.index (index_in w.made a.id.creator) low.0 in
+      let name : has_name (made_names steps) a.id ≡ true = made-told steps c w told a.id some.0 ∙ le-leb a.id.index (index_in w.made a.id.creator) low.0 in
       (shown-as steps c w stands told a booked.0 name, shown-each list booked.1 low.1 some.1)
 
   module _ (p : ℕ) (r : Replica) (runs : replica_of w p ≡ Some r) (low : Each (λ (a : Action). a.id.index ≤ index_in w.made a.id.creator) r.held.queue.reds) where
@@ -101,7 +101,7 @@ module _ (steps : List Step) (c : Chronicle) (w : World) (stands : StandsBeside 
     marked-shown =
         Each-append Is (actions_named h.queue h.queue.yellow) (plain_reds h.queue)
         (each-named Is h.queue h.queue.yellow (Each-append Is h.queue.greens h.queue.reds greens-are reds-are))
-        (Each-filter Is (λ a. not (names h.queue.yellow a.id)) h.queue.reds reds-are)
+        (Each-filter Is (λ a. not (has_name h.queue.yellow a.id)) h.queue.reds reds-are)
 
     marked-made : made_actions steps (h.queue.yellow ++ names_of (plain_reds h.queue)) ≡ actions_named h.queue h.queue.yellow ++ plain_reds h.queue
     marked-made =

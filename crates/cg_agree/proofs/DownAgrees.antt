@@ -6,7 +6,7 @@ use Rattle.std.specs.Option.{option_map_or}
 use Rattle.std.proofs.lemmas.Bool.{le-leb}
 use Rattle.cg_base.specs.declared.action_id.ActionId.{ActionId}
 use Rattle.cg_base.specs.Cuts.{index_in}
-use Rattle.cg_base.specs.Ids.{names}
+use Rattle.cg_base.specs.Ids.{has_name}
 use Rattle.cg_action.specs.declared.action.Action.{Action}
 use Rattle.cg_db.specs.Apply.{fold_actions}
 use Rattle.cg_base.specs.Lists.{Each}
@@ -64,7 +64,7 @@ module _ (always : AlwaysHolds) (steps : List Step) (run : IsRunFrom no_world st
       let list = stood_of c p in
       let some = run-some [] (names_of list) (core c w stands.stands shown.fits shown.order p disk green down).contiguous.greens in
       let made = each-le w list (all-made c w stands.stands shown.fits shown.order p disk green down) in
-      let named : Each (λ id. names (made_names steps) id ≡ true) (names_of list) = named-each steps c w stands.told (names_of list) some made in
+      let named : Each (λ id. has_name (made_names steps) id ≡ true) (names_of list) = named-each steps c w stands.told (names_of list) some made in
       let shown_as = each-as steps c w stands.stands stands.told list (names_of list) (Front-refl (names_of list)) named (booked c w stands.stands shown.fits shown.order p disk green down) in
       ap (made_actions steps) (sym (prefix c w stands.stands shown.fits shown.order p disk green down
       ∙ ap (λ (order : List ActionId). take (green_count q) (order_recovered order disk green)) order-is))

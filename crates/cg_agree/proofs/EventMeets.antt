@@ -6,7 +6,7 @@ use Rattle.std.proofs.lemmas.Bool.{cases_eq, cases_Bool, cond-true, cond-false, 
 use Rattle.cg_base.specs.declared.action_id.ActionId.{ActionId}
 use Rattle.cg_base.specs.declared.weighted.Weighted.{Weighted}
 use Rattle.cg_base.specs.Cuts.{index_in}
-use Rattle.cg_base.specs.Ids.{names}
+use Rattle.cg_base.specs.Ids.{has_name}
 use Rattle.cg_base.specs.IdLaws.{same_id-false}
 use Rattle.cg_base.specs.Weights.{ids}
 use Rattle.cg_action.specs.declared.action.Action.{Action}
@@ -142,7 +142,7 @@ module _ (start : List Weighted) (w : World) where
   ] where
     over : (made_now : List ActionId) (replies_now : List Reply) → Said g h p made_now replies_now → SaidOnly h p made_now replies_now
     over made_now replies_now said = record {
-      made = λ i. said.made i ∙ ap (λ list. names (made_ids list) (own_name p i) || names made_now (own_name p i)) made;
+      made = λ i. said.made i ∙ ap (λ list. has_name (made_ids list) (own_name p i) || has_name made_now (own_name p i)) made;
       count = λ i. said.count i ∙ ap (λ list. times (own_name p i) (ids_in list) + times (own_name p i) (reply_ids replies_now)) replies;
       from = λ r mine there. subst (λ list. IsIn (plain list) r ⊎ IsIn replies_now r) replies (said.from r mine there);
     }
@@ -267,22 +267,22 @@ recovered-owed : (disk : Disk) → disk.content.owed ≡ [] → (recovered disk)
 unfolding recover_disk
 recovered-owed disk none = owed-own (begin (record { held = disk.content; state = NonPrim false })) ∙ none
 
-none-other : (reds : List Action) (m : ℕ) (t : Action → Bool) (p i : ℕ) → (p ≡ m → ⊥) → names (names_of (filter (λ a. (a.id.creator == m) && t a) reds)) (own_name p i) ≡ false
+none-other : (reds : List Action) (m : ℕ) (t : Action → Bool) (p i : ℕ) → (p ≡ m → ⊥) → has_name (names_of (filter (λ a. (a.id.creator == m) && t a) reds)) (own_name p i) ≡ false
 none-other [] m t p i apart = refl
 none-other (a ∷ reds) m t p i apart = elim (cases_Bool ((a.id.creator == m) && t a)) [
   | inl here ↦
       let creator : a.id.creator ≡ m = eqb-true a.id.creator m (and_parts (a.id.creator == m) (t a) here).0 in
       let rest = names_of (filter (λ a. (a.id.creator == m) && t a) reds) in
-      ap (λ xs. names (names_of xs) (own_name p i)) (cond-true ((a.id.creator == m) && t a) (a ∷ filter (λ a. (a.id.creator == m) && t a) reds) (filter (λ a. (a.id.creator == m) && t a) reds) here)
-      ∙ ap (λ b. b || names rest (own_name p i)) (same_id-false (own_name p i) a.id (inl (λ e. apart (e ∙ creator))))
+      ap (λ xs. has_name (names_of xs) (own_name p i)) (cond-true ((a.id.creator == m) && t a) (a ∷ filter (λ a. (a.id.creator == m) && t a) reds) (filter (λ a. (a.id.creator == m) && t a) reds) here)
+      ∙ ap (λ b. b || has_name rest (own_name p i)) (same_id-false (own_name p i) a.id (inl (λ e. apart (e ∙ creator))))
       ∙ none-other reds m t p i apart
   | inr other ↦
-      ap (λ xs. names (names_of xs) (own_name p i)) (cond-false ((a.id.creator == m) && t a) (a ∷ filter (λ a. (a.id.creator == m) && t a) reds) (filter (λ a. (a.id.creator == m) && t a) reds) other)
+      ap (λ xs. has_name (names_of xs) (own_name p i)) (cond-false ((a.id.creator == m) && t a) (a ∷ filter (λ a. (a.id.creator == m) && t a) reds) (filter (λ a. (a.id.creator == m) && t a) reds) other)
       ∙ none-other reds m t p i apart
 ]
 
 -- what a recovery shows of another replica
-unshown-other : (made : List ActionId) (h : Held) (q p i : ℕ) → h.id ≡ q → (p ≡ q → ⊥) → names (names_of (unshown made h)) (own_name p i) ≡ false
+unshown-other : (made : List ActionId) (h : Held) (q p i : ℕ) → h.id ≡ q → (p ≡ q → ⊥) → has_name (names_of (unshown made h)) (own_name p i) ≡ false
 unshown-other made h q p i mine apart = none-other h.queue.reds h.id (λ a. nat_lt (index_in made h.id) a.id.index) p i (λ e. apart (e ∙ mine))
 
 pub recover-meets : (w : World) (e : Event) (q p : ℕ) → is_recovery_of p e ≡ (q == p) → ((d : Disk) (green : List ActionId) (s : Node) → node_of w q ≡ Some s → s.life ≡ Down d green → d.content.id ≡ q) → Meets w e (recover w q) p

@@ -7,7 +7,7 @@ use Rattle.std.proofs.lemmas.List.{map-append}
 use Rattle.cg_base.specs.Lists.{Each}
 use Rattle.cg_base.specs.declared.action_id.ActionId.{ActionId}
 use Rattle.cg_base.specs.Cuts.{index_in}
-use Rattle.cg_base.specs.Ids.{same_id, names}
+use Rattle.cg_base.specs.Ids.{same_id, has_name}
 use Rattle.cg_action.specs.declared.action.Action.{Action}
 use Rattle.cg_action.specs.declared.entry.DbEntry.{DbEntry}
 use Rattle.cg_db.specs.Apply.{apply, fold_actions}
@@ -106,17 +106,17 @@ fewer t id ids = elim (cases_Bool (t id)) [
 ]
 
 -- a name in the second of two lists
-named-later : (xs ys : List ActionId) (id : ActionId) → names ys id ≡ true → names (xs ++ ys) id ≡ true
+named-later : (xs ys : List ActionId) (id : ActionId) → has_name ys id ≡ true → has_name (xs ++ ys) id ≡ true
 named-later [] ys id there = there
-named-later (x ∷ xs) ys id there = or-later (same_id id x) (names (xs ++ ys) id) (named-later xs ys id there) where
+named-later (x ∷ xs) ys id there = or-later (same_id id x) (has_name (xs ++ ys) id) (named-later xs ys id there) where
   or-later : (a b : Bool) → b ≡ true → (a || b) ≡ true
   or-later true b e = refl
   or-later false b e = e
 
-named-back : (xs ys : List ActionId) (id : ActionId) → names xs id ≡ false → names (xs ++ ys) id ≡ true → names ys id ≡ true
+named-back : (xs ys : List ActionId) (id : ActionId) → has_name xs id ≡ false → has_name (xs ++ ys) id ≡ true → has_name ys id ≡ true
 named-back [] ys id none there = there
 named-back (x ∷ xs) ys id none there = at (same_id id x) none there (λ first. λ e. named-back xs ys id first e) where
-  at : (b : Bool) → (b || names xs id) ≡ false → (b || names (xs ++ ys) id) ≡ true → (names xs id ≡ false → names (xs ++ ys) id ≡ true → names ys id ≡ true) → names ys id ≡ true
+  at : (b : Bool) → (b || has_name xs id) ≡ false → (b || has_name (xs ++ ys) id) ≡ true → (has_name xs id ≡ false → has_name (xs ++ ys) id ≡ true → has_name ys id ≡ true) → has_name ys id ≡ true
   at true off on again = absurd (let clash : true ≡ false = off in cc)
   at false off on again = again off on
 
@@ -270,7 +270,7 @@ module _ (always : AlwaysHolds) (earlier : List Step) (s : Step) (is : IsStepAt 
       made = x.made;
       said = x.said;
       undue = λ less. fresh-undue p x.none (λ i. created-now always earlier s is owed p i x.made x.said.made
-          ∙ ap (λ (b : Bool). names x.made (own_name p i) && not b) x.event ∙ no-more (names x.made (own_name p i)));
+          ∙ ap (λ (b : Bool). has_name x.made (own_name p i) && not b) x.event ∙ no-more (has_name x.made (own_name p i)));
     })
     at (Begins x) = inl (record { made = []; said = x.said; undue = λ less. fresh-undue p x.none (λ i. created-now always earlier s is owed p i [] x.said.made) })
 
@@ -418,10 +418,10 @@ module _ (always : AlwaysHolds) (earlier : List Step) (s : Step) (is : IsStepAt 
       position-new = behind.tells.position p x.new x.runs ∙ now_order.count ∙ ap length x.greens ∙ sym (count (G ++ more)) ∙ ap length (names-both G more)
 
       -- a name that is newly green
-      new-numbers : names (names_of more) id ≡ (nat_lt (index_in cut id.creator) id.index && nat_le id.index (index_in (cut_behind cut (names_of more)) id.creator))
+      new-numbers : has_name (names_of more) id ≡ (nat_lt (index_in cut id.creator) id.index && nat_le id.index (index_in (cut_behind cut (names_of more)) id.creator))
       new-numbers = run-names cut (names_of more) id rising x.says.answered.run
 
-      old-numbers : names (names_of G) id ≡ (nat_lt (index_in [] id.creator) id.index && nat_le id.index (index_in (cut_behind [] (names_of G)) id.creator))
+      old-numbers : has_name (names_of G) id ≡ (nat_lt (index_in [] id.creator) id.index && nat_le id.index (index_in (cut_behind [] (names_of G)) id.creator))
       old-numbers = run-names [] (names_of G) id tt was_order.core.contiguous.greens
 
       given-due : 1 ≤ times id step_ids → IsDue earlier s id (suc (length first))
@@ -430,14 +430,14 @@ module _ (always : AlwaysHolds) (earlier : List Step) (s : Step) (is : IsStepAt 
         | inl mine ↦
             let passes = times-passing (is_behind p x.base) id (names_of more) mine in
             let all = turned-times id x in
-            let there : names (names_of more) id ≡ true = times-named id (names_of more) (omega arith) in
+            let there : has_name (names_of more) id ≡ true = times-named id (names_of more) (omega arith) in
             let numbers = and_parts (nat_lt (index_in cut id.creator) id.index) (nat_le id.index (index_in (cut_behind cut (names_of more)) id.creator)) (sym new-numbers ∙ there) in
             let above : index_in cut id.creator < id.index = ltb-true (index_in cut id.creator) id.index numbers.0 in
             let below : id.index ≤ index_in (cut_behind cut (names_of more)) id.creator = leb-true id.index (index_in (cut_behind cut (names_of more)) id.creator) numbers.1 in
             let reached : index_in (cut_behind cut (names_of more)) id.creator ≡ index_in x.turn.replica.held.queue.green_cut id.creator = ap (λ k. index_in k id.creator) (sym x.says.answered.cut) in
             let green : index_in x.turn.replica.held.queue.green_cut id.creator ≤ created x.old.held = x.says.green in
             let total : created x.old.held ≤ created x.new.held = x.more in
-            let whole : names (names_of G ++ names_of more) id ≡ true = named-later (names_of G) (names_of more) id there in
+            let whole : has_name (names_of G ++ names_of more) id ≡ true = named-later (names_of G) (names_of more) id there in
             let within = placed-within (order_of now) first after (names_of G ++ names_of more) id order-runs-now placed front-all whole in
             let late : length (names_of G) ≤ length first = not-early above in
             let low = position-old in
@@ -449,7 +449,7 @@ module _ (always : AlwaysHolds) (earlier : List Step) (s : Step) (is : IsStepAt 
         not-early above = elim (cases_lt (length first) (length (names_of G))) [
           | inr far ↦ far
           | inl less ↦
-              let named : names (names_of G) id ≡ true = within-placed first after (names_of G) id (subst (Front (names_of G)) placed front-old) less in
+              let named : has_name (names_of G) id ≡ true = within-placed first after (names_of G) id (subst (Front (names_of G)) placed front-old) less in
               let numbers = and_parts (nat_lt (index_in [] id.creator) id.index) (nat_le id.index (index_in (cut_behind [] (names_of G)) id.creator)) (sym old-numbers ∙ named) in
               let low : id.index ≤ index_in (cut_behind [] (names_of G)) id.creator = leb-true id.index (index_in (cut_behind [] (names_of G)) id.creator) numbers.1 in
               let same : index_in cut id.creator ≡ index_in (cut_behind [] (names_of G)) id.creator = ap (λ k. index_in k id.creator) was_order.core.made_of.green_cut in
@@ -462,8 +462,8 @@ module _ (always : AlwaysHolds) (earlier : List Step) (s : Step) (is : IsStepAt 
           let high = position-new in
           let passed_from = due.0.0 in
           let passed_to = due.0.1 in
-          let whole : names (names_of G ++ names_of more) id ≡ true = within-placed first after (names_of G ++ names_of more) id (subst (Front (names_of G ++ names_of more)) placed front-all) (omega arith) in
-          let there : names (names_of more) id ≡ true = not-before (omega arith) whole in
+          let whole : has_name (names_of G ++ names_of more) id ≡ true = within-placed first after (names_of G ++ names_of more) id (subst (Front (names_of G ++ names_of more)) placed front-all) (omega arith) in
+          let there : has_name (names_of more) id ≡ true = not-before (omega arith) whole in
           let lived = and_parts (nat_lt x.base id.index) (nat_le id.index (created x.new.held)) (sym (x.lives id.index) ∙ due.1) in
           let mine : is_behind p x.base id ≡ true = ap₂ (λ a b. a && b) (eq-eqb id.creator p refl) lived.0 in
           let passes = times-passing (is_behind p x.base) id (names_of more) mine in
@@ -471,8 +471,8 @@ module _ (always : AlwaysHolds) (earlier : List Step) (s : Step) (is : IsStepAt 
           let all = turned-times id x in
           omega arith
         where
-          not-before : length (names_of G) ≤ length first → names (names_of G ++ names_of more) id ≡ true → names (names_of more) id ≡ true
-          not-before far whole = named-back (names_of G) (names_of more) id (false_from_ne_true (names (names_of G) id) (λ y.
+          not-before : length (names_of G) ≤ length first → has_name (names_of G ++ names_of more) id ≡ true → has_name (names_of more) id ≡ true
+          not-before far whole = named-back (names_of G) (names_of more) id (false_from_ne_true (has_name (names_of G) id) (λ y.
               let within = placed-within (order_of now) first after (names_of G) id order-runs-now placed front-old y in omega arith)) whole
 
     given-is_due : 1 ≤ times id step_ids → IsDue earlier s id (suc (length first))

@@ -6,7 +6,7 @@ use Rattle.std.proofs.lemmas.Bool.{cases_Bool}
 use Rattle.std.proofs.lemmas.List.{append_assoc}
 use Rattle.cg_base.specs.declared.action_id.ActionId.{ActionId}
 use Rattle.cg_base.specs.Cuts.{index_in}
-use Rattle.cg_base.specs.Ids.{names}
+use Rattle.cg_base.specs.Ids.{has_name}
 use Rattle.cg_base.specs.Sets.{has}
 use Rattle.cg_action.specs.declared.action.Action.{Action}
 use Rattle.cg_queue.specs.Queue.{names_of}
@@ -64,7 +64,7 @@ filter-whole t (x ∷ xs) e = at (t x) (filter-less t xs) (λ rest. filter-whole
   at true le rest e = ap (λ ys. x ∷ ys) (rest (omega (arith, e)))
   at false le rest e = absurd (omega (arith, le, e))
 
-all-names : (ids : List ActionId) → filter (λ id. not (names [] id)) ids ≡ ids
+all-names : (ids : List ActionId) → filter (λ id. not (has_name [] id)) ids ≡ ids
 all-names [] = refl
 all-names (id ∷ ids) = ap (λ xs. id ∷ xs) (all-names ids)
 
@@ -153,8 +153,8 @@ module _ (c : Chronicle) (i : Invariant c) (p : ℕ) (r : Replica) (ins : Instal
         let cut : r.held.queue.green_cut ≡ b.green_cut =
         core.made_of.green_cut ∙ ap (λ xs. cut_behind [] (names_of xs)) (held-parts.greens ∙ is) ∙ sym fits.green_cut ∙ ap (λ (s : Summary). s.green_cut) summary in
         let all = flat_map (names_between heard b) (creators heard) in
-        ap (λ o. option_map_or (λ b. filter (λ id. not (names (common_yellow heard).list id)) (flat_map (names_between heard b) (creators heard))) o []) most
-        ∙ ap (λ ys. filter (λ id. not (names ys id)) all) none ∙ all-names all
+        ap (λ o. option_map_or (λ b. filter (λ id. not (has_name (common_yellow heard).list id)) (flat_map (names_between heard b) (creators heard))) o []) most
+        ∙ ap (λ ys. filter (λ id. not (has_name ys id)) all) none ∙ all-names all
         ∙ sym (known-names c.start r.held (greens_of c p) heard b oneself-before cut knows-all)
 
     of_best : (o : Option Summary) → most_updated heard ≡ o → IsSomeWith (option_and_then (λ s. told_in c ins.conf s.id) o) (λ best. ins.a.greens ≡ best.greens) → red_names heard ≡ names_of r.held.queue.reds
@@ -166,7 +166,7 @@ module _ (c : Chronicle) (i : Invariant c) (p : ℕ) (r : Replica) (ins : Instal
   reds-plain invalid =
       let yellow : ins.a.yellow ≡ [] = sym held-parts.yellow ∙ none-valid r.held invalid in
       let named = reds-named (sym shape.parts.yellow ∙ none-named ins.a.yellow yellow) in
-      filter-whole (λ a. not (names r.held.queue.yellow a.id)) r.held.queue.reds
+      filter-whole (λ a. not (has_name r.held.queue.yellow a.id)) r.held.queue.reds
       (sym (names-count (plain_reds r.held.queue)) ∙ ap length (ap names_of held-parts.reds ∙ shape.parts.reds ∙ named) ∙ names-count r.held.queue.reds) where
         none-valid : (h : Held) → h.yellow_valid ≡ false → valid_yellow h ≡ []
         none-valid h invalid = rw invalid refl

@@ -6,7 +6,7 @@ use Rattle.std.proofs.lemmas.Grind.{flat_map-append}
 use Rattle.std.proofs.lemmas.List.{map-append}
 use Rattle.std.proofs.lemmas.List.Elements.{Contains-append_left, Contains-append_cases}
 use Rattle.cg_base.specs.declared.action_id.ActionId.{ActionId}
-use Rattle.cg_base.specs.Ids.{names, same_id}
+use Rattle.cg_base.specs.Ids.{has_name, same_id}
 use Rattle.cg_base.specs.IdLaws.{same_id-true}
 use Rattle.cg_base.specs.Cuts.{index_in}
 use Rattle.cg_queue.specs.Queue.{green_count, names_of}
@@ -44,12 +44,12 @@ use Rattle.cg_model.specs.RunLaws.{world-last}
 
 -- ---- the names that were shown as made
 
-contained-names : (k : ℕ) (ids : List ActionId) (id : ActionId) → k < length ids → slice_index_or ids k id ≡ id → names ids id ≡ true
+contained-names : (k : ℕ) (ids : List ActionId) (id : ActionId) → k < length ids → slice_index_or ids k id ≡ id → has_name ids id ≡ true
 contained-names k [] id lt is = absurd (omega arith)
-contained-names zero (x ∷ ids) id lt is = or_left (same_id id x) (names ids id) (same_id-true id x (ap (λ (y : ActionId). y.creator) (sym is)) (ap (λ (y : ActionId). y.index) (sym is)))
-contained-names (suc k) (x ∷ ids) id lt is = or_right (same_id id x) (names ids id) (contained-names k ids id (omega arith) is)
+contained-names zero (x ∷ ids) id lt is = or_left (same_id id x) (has_name ids id) (same_id-true id x (ap (λ (y : ActionId). y.creator) (sym is)) (ap (λ (y : ActionId). y.index) (sym is)))
+contained-names (suc k) (x ∷ ids) id lt is = or_right (same_id id x) (has_name ids id) (contained-names k ids id (omega arith) is)
 
-pub named-contained : (ids : List ActionId) (id : ActionId) → Contains ids id → names ids id ≡ true
+pub named-contained : (ids : List ActionId) (id : ActionId) → Contains ids id → has_name ids id ≡ true
 named-contained ids id is = contained-names is.0 ids id is.1 is.2
 
 -- whose creators are up

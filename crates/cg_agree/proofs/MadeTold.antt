@@ -9,7 +9,7 @@ use Rattle.cg_base.specs.Lists.{Each}
 use Rattle.cg_group.specs.EachLaws.{Each-append, Each-weaker}
 use Rattle.cg_base.specs.declared.action_id.ActionId.{ActionId}
 use Rattle.cg_base.specs.Cuts.{index_in}
-use Rattle.cg_base.specs.Ids.{names, same_id}
+use Rattle.cg_base.specs.Ids.{has_name, same_id}
 use Rattle.cg_action.specs.declared.action.Action.{Action}
 use Rattle.cg_queue.specs.Queue.{green_count}
 use Rattle.cg_report.specs.declared.entry.Made.{Made}
@@ -116,7 +116,7 @@ made-on earlier c w s step placed told =
 
 -- ---- what it says
 
-pub made-told : (earlier : List Step) (c : Chronicle) (w : World) → IsMadeTold earlier c w → (id : ActionId) → 1 ≤ id.index → names (made_names earlier) id ≡ nat_le id.index (index_in w.made id.creator)
+pub made-told : (earlier : List Step) (c : Chronicle) (w : World) → IsMadeTold earlier c w → (id : ActionId) → 1 ≤ id.index → has_name (made_names earlier) id ≡ nat_le id.index (index_in w.made id.creator)
 made-told earlier c w told id some =
     run-names [] (made_names earlier) id tt told.run
     ∙ ap₂ (λ a b. a && b) (lt-ltb 0 id.index (omega arith)) (ap (λ cut. nat_le id.index (index_in cut id.creator)) (sym told.cut))

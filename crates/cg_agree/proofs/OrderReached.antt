@@ -7,7 +7,7 @@ use Rattle.std.proofs.lemmas.List.Elements.{Contains-append_right}
 use Rattle.cg_base.specs.Lists.{Each}
 use Rattle.cg_group.specs.EachLaws.{Each-list_all}
 use Rattle.cg_base.specs.declared.action_id.ActionId.{ActionId}
-use Rattle.cg_base.specs.Ids.{same_id, names}
+use Rattle.cg_base.specs.Ids.{same_id, has_name}
 use Rattle.cg_base.specs.Cuts.{index_in, raise}
 use Rattle.cg_base.specs.IdLaws.{same_id-is}
 use Rattle.cg_action.specs.declared.action.Action.{Action}
@@ -78,16 +78,16 @@ run-some cut [] run = tt
 run-some cut (id ∷ ids) run = ((let next : id.index ≡ suc (index_in cut id.creator) = run-head cut id ids run in omega arith), run-some (raise cut id) ids (run-rest cut id ids run))
 
 pub named-each : (steps : List Step) (c : Chronicle) (w : World) → IsMadeTold steps c w → (ids : List ActionId) → Each (λ id. 1 ≤ id.index) ids → Each (λ id. nat_le id.index (index_in w.made id.creator) ≡ true) ids →
-    Each (λ id. names (made_names steps) id ≡ true) ids
+    Each (λ id. has_name (made_names steps) id ≡ true) ids
 named-each steps c w told [] some made = tt
 named-each steps c w told (id ∷ ids) some made = (made-told steps c w told id some.0 ∙ made.0, named-each steps c w told ids some.1 made.1)
 
 -- each name in the order was shown as made
-pub order-named : (steps : List Step) (c : Chronicle) (w : World) → StandsBeside c w → IsMadeTold steps c w → Each (λ id. names (made_names steps) id ≡ true) w.order
+pub order-named : (steps : List Step) (c : Chronicle) (w : World) → StandsBeside c w → IsMadeTold steps c w → Each (λ id. has_name (made_names steps) id ≡ true) w.order
 order-named steps c w stands told =
     named-each steps c w told w.order (run-some [] w.order (order-runs c w stands))
     (Each-list_all (λ (x : ActionId). nat_le x.index (index_in w.made x.creator)) w.order stands.rests.order_book.made)
 
 pub ordered-made : (steps : List Step) (c : Chronicle) (w : World) → StandsBeside c w → IsMadeTold steps c w → (id : ActionId) → Contains w.order id → Contains (made_names steps) id
 ordered-made steps c w stands told id there =
-    contains-named (made_names steps) id (each-contains (λ (x : ActionId). names (made_names steps) x ≡ true) w.order id (order-named steps c w stands told) there)
+    contains-named (made_names steps) id (each-contains (λ (x : ActionId). has_name (made_names steps) x ≡ true) w.order id (order-named steps c w stands told) there)

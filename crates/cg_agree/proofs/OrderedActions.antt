@@ -5,7 +5,7 @@ use Rattle.std.proofs.lemmas.Bool.{cases_Bool, cond-true, cond-false, or_cases}
 use Rattle.std.proofs.lemmas.List.{map-append}
 use Rattle.std.proofs.lemmas.List.Elements.{Contains-append_right}
 use Rattle.cg_base.specs.declared.action_id.ActionId.{ActionId}
-use Rattle.cg_base.specs.Ids.{same_id, names}
+use Rattle.cg_base.specs.Ids.{same_id, has_name}
 use Rattle.cg_base.specs.Lists.{present, Each}
 use Rattle.cg_base.specs.IdLaws.{same_id-is}
 use Rattle.cg_action.specs.declared.action.Action.{Action}
@@ -33,7 +33,7 @@ record IsFoundIn (list : List Action) (id : ActionId) : Type 0 where
   name : action.id ≡ id
   there : Contains list action
 
-found-there : (list : List Action) (id : ActionId) → names (names_of list) id ≡ true → IsFoundIn list id
+found-there : (list : List Action) (id : ActionId) → has_name (names_of list) id ≡ true → IsFoundIn list id
 found-there [] id is = absurd (let clash : false ≡ true = is in cc)
 found-there (a ∷ list) id is = elim (cases_Bool (same_id a.id id)) [
   | inl here ↦ record {
@@ -43,7 +43,7 @@ found-there (a ∷ list) id is = elim (cases_Bool (same_id a.id id)) [
     there = (zero, (let less : 0 < suc (length list) = omega arith in less), refl);
   }
   | inr other ↦
-      let rest = found-there list id (elim (or_cases (same_id id a.id) (names (names_of list) id) is) [
+      let rest = found-there list id (elim (or_cases (same_id id a.id) (has_name (names_of list) id) is) [
         | inl here ↦ absurd (let same : id ≡ a.id = same_id-is id a.id here in
             let self : same_id a.id id ≡ true = subst (λ (x : ActionId). same_id a.id x ≡ true) (sym same) (same-self a.id) in
             let clash : true ≡ false = sym self ∙ other in cc)
@@ -65,18 +65,18 @@ module _ (steps : List Step) (c : Chronicle) (w : World) (stands : StandsBeside 
     pub found : made_action steps a.id ≡ Some a
     pub there : Contains (made_of steps) a
 
-  pub shown-as : (a : Action) → IsNamed c.book a → names (made_names steps) a.id ≡ true → IsShownAs a
+  pub shown-as : (a : Action) → IsNamed c.book a → has_name (made_names steps) a.id ≡ true → IsShownAs a
   shown-as a booked shown =
-      let is = found-there (made_of steps) a.id (ap (λ ids. names ids a.id) (names-from [] steps) ∙ shown) in
+      let is = found-there (made_of steps) a.id (ap (λ ids. has_name ids a.id) (names-from [] steps) ∙ shown) in
       let itself : IsNamed c.book is.action = each-contains (IsNamed c.book) c.book is.action (named-all [] c.book stands.facts.replica.made_once.numbered) (as-made steps c w told is.action is.there) in
       let same : Some is.action ≡ Some a = sym itself ∙ ap (named_in c.book) is.name ∙ booked in
       record { found = is.found ∙ same; there = subst (Contains (made_of steps)) (ap (λ o. option_map_or (λ x. x) o a) same) is.there }
 
-  pub each-as : (list : List Action) (ids : List ActionId) → Front (names_of list) ids → Each (λ id. names (made_names steps) id ≡ true) ids → Each (IsNamed c.book) list → Each IsShownAs list
+  pub each-as : (list : List Action) (ids : List ActionId) → Front (names_of list) ids → Each (λ id. has_name (made_names steps) id ≡ true) ids → Each (IsNamed c.book) list → Each IsShownAs list
   each-as [] ids front shown booked = tt
   each-as (a ∷ list) [] front shown booked = absurd front
   each-as (a ∷ list) (id ∷ ids) front shown booked =
-      (shown-as a booked.0 (ap (names (made_names steps)) front.0 ∙ shown.0), each-as list ids front.1 shown.1 booked.1)
+      (shown-as a booked.0 (ap (has_name (made_names steps)) front.0 ∙ shown.0), each-as list ids front.1 shown.1 booked.1)
 
   -- actions of the book whose names begin the order
   pub each-shown_as : (list : List Action) → Front (names_of list) w.order → Each (IsNamed c.book) list → Each IsShownAs list

@@ -22,7 +22,7 @@ use Rattle.cg_model.specs.Looks.{OfCores, disk_held, greens_of, on_disk, ordered
 use Rattle.cg_model.specs.Played.{IsSame, StandsBeside}
 use Rattle.cg_model.specs.World.{Down, NodeState, Node, Up, World, replica_of, running, node_of}
 use Rattle.cg_base.specs.Cuts.{index_in}
-use Rattle.cg_base.specs.Ids.{names}
+use Rattle.cg_base.specs.Ids.{has_name}
 use Rattle.cg_client.specs.Replica.{Held, Replica, created}
 use Rattle.cg_group.specs.State.{unordered_of}
 use Rattle.cg_queue.specs.Queue.{names_of}
@@ -38,7 +38,7 @@ core-there (Some s) r e = life s.life e where
 -- an action of the book is counted by it
 pub booked-index : (c : Chronicle) → Invariant c → (a : Action) → IsNamed c.book a → a.id.index ≤ index_in (cut_of c.book) a.id.creator
 booked-index c i a is =
-    let there : names (names_of c.book) a.id ≡ true = found-name c.book a.id a is in
+    let there : has_name (names_of c.book) a.id ≡ true = found-name c.book a.id a is in
     let known : (nat_lt (index_in [] a.id.creator) a.id.index && nat_le a.id.index (index_in (cut_of c.book) a.id.creator)) ≡ true =
     sym (run-names [] (names_of c.book) a.id tt i.replica.made_once.numbered) ∙ there in
     leb-true a.id.index (index_in (cut_of c.book) a.id.creator) (and_parts (nat_lt (index_in [] a.id.creator) a.id.index) (nat_le a.id.index (index_in (cut_of c.book) a.id.creator)) known).1

@@ -3,7 +3,7 @@ use Rattle.std.proofs.Common.{◌≡◌, ℕ, ◌+◌, nat_lt, nat_le, Bool, tru
 use Rattle.std.specs.List.{list_any}
 use Rattle.std.specs.Option.{option_map_or}
 use Rattle.cg_base.specs.declared.action_id.ActionId.{ActionId}
-use Rattle.cg_base.specs.Ids.{names}
+use Rattle.cg_base.specs.Ids.{has_name}
 use Rattle.cg_report.specs.declared.line.Line.{Line}
 use Rattle.cg_report.specs.declared.entry.Made.{Made}
 use Rattle.cg_group.specs.State.{phase_of}
@@ -105,9 +105,9 @@ module _ (always : AlwaysHolds) (earlier : List Step) (s : Step) (is : IsStepAt 
 
   -- ---- what is shown as created, and as down
 
-  pub created-now : (p i : ℕ) (made : List ActionId) → ((i : ℕ) → names (made_ids h.made) (own_name p i) ≡ (names (made_ids []) (own_name p i) || names made (own_name p i))) →
-      is_created_in (own_name p i) s ≡ (names made (own_name p i) && not (is_recovery_of p s.event))
-  created-now p i made said = ap (λ b. b && not (is_recovery_of p s.event)) (ap (λ (list : List Made). names (made_ids list) (own_name p i)) shows.made ∙ said i)
+  pub created-now : (p i : ℕ) (made : List ActionId) → ((i : ℕ) → has_name (made_ids h.made) (own_name p i) ≡ (has_name (made_ids []) (own_name p i) || has_name made (own_name p i))) →
+      is_created_in (own_name p i) s ≡ (has_name made (own_name p i) && not (is_recovery_of p s.event))
+  created-now p i made said = ap (λ b. b && not (is_recovery_of p s.event)) (ap (λ (list : List Made). has_name (made_ids list) (own_name p i)) shows.made ∙ said i)
 
   pub up-now : (p : ℕ) (r : Replica) → replica_of (world_of now) p ≡ Some r → is_down_in p s ≡ false
   up-now p r runs =
@@ -221,7 +221,7 @@ module _ (always : AlwaysHolds) (earlier : List Step) (s : Step) (is : IsStepAt 
     turned-lives x up same said i =
         let m = created r.held in
         let total : created x.held ≡ m + says.count = same ∙ says.reached in
-        let made : names (names_of t.made) (own_name p i) ≡ (nat_lt m i && nat_le i (m + says.count)) = ap (λ ids. names ids (own_name p i)) says.made ∙ own-named p m says.count i in
+        let made : has_name (names_of t.made) (own_name p i) ≡ (nat_lt m i && nat_le i (m + says.count)) = ap (λ ids. has_name ids (own_name p i)) says.made ∙ own-named p m says.count i in
         lives-next (own_name p i) earlier s
         ∙ ap₂ (λ (a b : Bool). (a && not b) || is_created_in (own_name p i) s) (was.lives i) (up-now p x up)
         ∙ ap (λ (c : Bool). ((nat_lt was.base i && nat_le i m) && true) || c)
@@ -267,7 +267,7 @@ module _ (always : AlwaysHolds) (earlier : List Step) (s : Step) (is : IsStepAt 
 
   wakes : (p : ℕ) → WakesIn w s.event h p → Result p
   wakes p x =
-      let none : (i : ℕ) → is_created_in (own_name p i) s ≡ false = λ i. created-now p i x.made x.said.made ∙ ap (λ (b : Bool). names x.made (own_name p i) && not b) x.event ∙ no-more (names x.made (own_name p i)) in
+      let none : (i : ℕ) → is_created_in (own_name p i) s ≡ false = λ i. created-now p i x.made x.said.made ∙ ap (λ (b : Bool). has_name x.made (own_name p i) && not b) x.event ∙ no-more (has_name x.made (own_name p i)) in
       record {
         disk = subst (λ (o : Option Held). IfSome o (λ h. h.owed ≡ [])) (sym (disk-now p ∙ x.disk)) (owed p).disk;
         lives = fresh-lives p x.replica (runs-now p ∙ x.runs) (x.owed (owed p).disk) x.none none;

@@ -5,7 +5,7 @@ use Rattle.std.specs.Prelude.{◌==◌, nat_lt, nat_le}
 use Rattle.std.specs.List.{list_all}
 use Rattle.std.proofs.lemmas.Bool.{cases_Bool, cases_lt, cases_order, cond-true, cond-false, and_parts, and_from, ne_eqb, eqb-false, lt-ltb, le-ltb, le-leb, lt-leb}
 use Rattle.cg_base.specs.declared.action_id.ActionId.{ActionId}
-use Rattle.cg_base.specs.Ids.{names, same_id}
+use Rattle.cg_base.specs.Ids.{has_name, same_id}
 use Rattle.cg_base.specs.Lists.{count_up}
 use Rattle.cg_base.specs.Sets.{has}
 use Rattle.cg_action.specs.declared.action.Action.{Action}
@@ -53,7 +53,7 @@ all-there n k more = elim (cases_lt k n) [
 
 -- names of one creator, of which each is the next
 counted-names : (p k : ℕ) (xs : List Action) (id : ActionId) → list_all (λ a. a.id.creator == p) xs ≡ true → map (λ a. a.id.index) xs ≡ count_up (suc k) (length xs) → id.creator ≡ p →
-    names (names_of xs) id ≡ (nat_lt k id.index && nat_le id.index (k + length xs))
+    has_name (names_of xs) id ≡ (nat_lt k id.index && nat_le id.index (k + length xs))
 counted-names p k [] id own up is = sym (no-more id.index k)
 counted-names p k (x ∷ xs) id own up is =
     let parts = and_parts (x.id.creator == p) (list_all (λ a. a.id.creator == p) xs) own in
@@ -65,16 +65,16 @@ counted-names p k (x ∷ xs) id own up is =
     ap₂ (λ a b. a || b) here (counted-names p (suc k) xs id parts.1 next is) ∙ one-more id.index k (length xs)
 
 -- the others' names are no matter
-names-own : (xs : List Action) (id : ActionId) → names (names_of xs) id ≡ names (names_of (of_creator id.creator xs)) id
+names-own : (xs : List Action) (id : ActionId) → has_name (names_of xs) id ≡ has_name (names_of (of_creator id.creator xs)) id
 names-own [] id = refl
 names-own (x ∷ xs) id = elim (cases_Bool (x.id.creator == id.creator)) [
   | inl mine ↦
       ap (λ b. same_id id x.id || b) (names-own xs id)
-      ∙ sym (ap (λ (ys : List Action). names (names_of ys) id) (cond-true (x.id.creator == id.creator) (x ∷ of_creator id.creator xs) (of_creator id.creator xs) mine))
+      ∙ sym (ap (λ (ys : List Action). has_name (names_of ys) id) (cond-true (x.id.creator == id.creator) (x ∷ of_creator id.creator xs) (of_creator id.creator xs) mine))
   | inr other ↦
       let apart : (id.creator == x.id.creator) ≡ false = ne_eqb id.creator x.id.creator (λ e. eqb-false x.id.creator id.creator other (sym e)) in
-      ap (λ b. (b && (id.index == x.id.index)) || names (names_of xs) id) apart ∙ names-own xs id
-      ∙ sym (ap (λ (ys : List Action). names (names_of ys) id) (cond-false (x.id.creator == id.creator) (x ∷ of_creator id.creator xs) (of_creator id.creator xs) other))
+      ap (λ b. (b && (id.index == x.id.index)) || has_name (names_of xs) id) apart ∙ names-own xs id
+      ∙ sym (ap (λ (ys : List Action). has_name (names_of ys) id) (cond-false (x.id.creator == id.creator) (x ∷ of_creator id.creator xs) (of_creator id.creator xs) other))
 ]
 
 own-all : (p : ℕ) (xs : List Action) → list_all (λ a. a.id.creator == p) (of_creator p xs) ≡ true
@@ -134,6 +134,6 @@ module _ (c : Chronicle) (i : Invariant c) (conf : ℕ) (some : 0 < conf) (quiet
   known-in id =
       let k = known_up_to talk.heard id.creator in
       let own = of_creator id.creator talk.acts in
-      ap₂ (λ heard acts. nat_le id.index (known_up_to heard id.creator) || names (names_of acts) id) (summaries-are c i conf some quiet) (actions-are c i conf some quiet)
+      ap₂ (λ heard acts. nat_le id.index (known_up_to heard id.creator) || has_name (names_of acts) id) (summaries-are c i conf some quiet) (actions-are c i conf some quiet)
       ∙ ap (λ b. nat_le id.index k || b) (names-own talk.acts id ∙ counted-names id.creator k own id (own-all id.creator talk.acts) (counts-on id.creator) refl)
       ∙ all-there id.index k (length own)

@@ -7,7 +7,7 @@ use Rattle.cg_base.specs.Lists.{Each}
 use Rattle.cg_base.specs.declared.action_id.ActionId.{ActionId}
 use Rattle.cg_base.specs.declared.weighted.Weighted.{Weighted}
 use Rattle.cg_base.specs.Cuts.{index_in}
-use Rattle.cg_base.specs.Ids.{same_id, names}
+use Rattle.cg_base.specs.Ids.{same_id, has_name}
 use Rattle.cg_base.specs.IdLaws.{same_id-is}
 use Rattle.cg_action.specs.declared.action.Action.{Action}
 use Rattle.cg_queue.specs.Queue.{names_of}
@@ -148,18 +148,18 @@ counts-recover c p own core s e (Down disk green) life is =
 -- ---- joiners
 
 -- a name that was found is one of the names
-pub found-name : (book : List Action) (id : ActionId) (a : Action) → named_in book id ≡ Some a → names (names_of book) id ≡ true
+pub found-name : (book : List Action) (id : ActionId) (a : Action) → named_in book id ≡ Some a → has_name (names_of book) id ≡ true
 found-name [] id a e = absurd (let clash : None ≡ Some a = e in cc)
 found-name (x ∷ book) id a e = elim (cases_Bool (same_id x.id id)) [
-  | inl here ↦ ap (λ b. b || names (names_of book) id) (let one = same_id-is x.id id here in subst (λ (y : ActionId). same_id id y ≡ true) (sym one) (same-self id))
-  | inr other ↦ or_right (same_id id x.id) (names (names_of book) id) (found-name book id a (sym (cond-false (same_id x.id id) (Some x) (named_in book id) other) ∙ e))
+  | inl here ↦ ap (λ b. b || has_name (names_of book) id) (let one = same_id-is x.id id here in subst (λ (y : ActionId). same_id id y ≡ true) (sym one) (same-self id))
+  | inr other ↦ or_right (same_id id x.id) (has_name (names_of book) id) (found-name book id a (sym (cond-false (same_id x.id id) (Some x) (named_in book id) other) ∙ e))
 ]
 
-names-booked : (book all : List Action) (id : ActionId) → Each (IsNamed book) all → names (names_of all) id ≡ true → names (names_of book) id ≡ true
+names-booked : (book all : List Action) (id : ActionId) → Each (IsNamed book) all → has_name (names_of all) id ≡ true → has_name (names_of book) id ≡ true
 names-booked book [] id each e = absurd (let clash : false ≡ true = e in cc)
 names-booked book (x ∷ all) id each e = elim (cases_Bool (same_id id x.id)) [
-  | inl here ↦ (let one = same_id-is id x.id here in subst (λ (y : ActionId). names (names_of book) y ≡ true) (sym one) (found-name book x.id x each.0))
-  | inr other ↦ names-booked book all id each.1 (sym (ap (λ b. b || names (names_of all) id) other) ∙ e)
+  | inl here ↦ (let one = same_id-is id x.id here in subst (λ (y : ActionId). has_name (names_of book) y ≡ true) (sym one) (found-name book x.id x each.0))
+  | inr other ↦ names-booked book all id each.1 (sym (ap (λ b. b || has_name (names_of all) id) other) ∙ e)
 ]
 
 -- what was made counts no further than the book
@@ -169,7 +169,7 @@ cut-within book all p run runs each = at (index_in (cut_of all) p) refl where
   at zero e = omega arith
   at (suc n) e =
       let id : ActionId = record { creator = p; index = suc n } in
-      let there : names (names_of all) id ≡ true = run-names [] (names_of all) id tt runs
+      let there : has_name (names_of all) id ≡ true = run-names [] (names_of all) id tt runs
       ∙ and_from (nat_lt 0 (suc n)) (nat_le (suc n) (index_in (cut_of all) p)) (lt-ltb 0 (suc n) (omega arith)) (le-leb (suc n) (index_in (cut_of all) p) (omega arith)) in
       let known : (nat_lt 0 (suc n) && nat_le (suc n) (index_in (cut_of book) p)) ≡ true = sym (run-names [] (names_of book) id tt run) ∙ names-booked book all id each there in
       leb-true (suc n) (index_in (cut_of book) p) (and_parts (nat_lt 0 (suc n)) (nat_le (suc n) (index_in (cut_of book) p)) known).1

@@ -5,7 +5,7 @@ use Rattle.std.proofs.lemmas.Bool.{cases_Bool, cond-true, cond-false, and_parts,
 use Rattle.cg_base.specs.Lists.{Each}
 use Rattle.cg_base.specs.declared.action_id.ActionId.{ActionId}
 use Rattle.cg_base.specs.Cuts.{index_in, raise}
-use Rattle.cg_base.specs.Ids.{same_id, names}
+use Rattle.cg_base.specs.Ids.{same_id, has_name}
 use Rattle.cg_base.specs.IdLaws.{same_id-true, same_id-is}
 use Rattle.cg_action.specs.declared.action.Action.{Action}
 use Rattle.cg_action.specs.declared.action.Kind.{Kind}
@@ -44,11 +44,11 @@ pub named-more : (xs ys : List Action) (a : Action) → IsNamed xs a → IsNamed
 named-more xs ys a is = found-more xs ys a.id a is
 
 -- a name that isn't among the earlier ones
-found-last : (xs : List Action) (a : Action) (ys : List Action) → names (names_of xs) a.id ≡ false → named_in (xs ++ a ∷ ys) a.id ≡ Some a
+found-last : (xs : List Action) (a : Action) (ys : List Action) → has_name (names_of xs) a.id ≡ false → named_in (xs ++ a ∷ ys) a.id ≡ Some a
 found-last [] a ys none = cond-true (same_id a.id a.id) (Some a) (named_in ys a.id) (same-self a.id)
 found-last (x ∷ xs) a ys none =
-    let first : same_id a.id x.id ≡ false = or-first (same_id a.id x.id) (names (names_of xs) a.id) none in
-    cond-false (same_id x.id a.id) (Some x) (named_in (xs ++ a ∷ ys) a.id) (other-way x.id a.id first) ∙ found-last xs a ys (or-second (same_id a.id x.id) (names (names_of xs) a.id) none)
+    let first : same_id a.id x.id ≡ false = or-first (same_id a.id x.id) (has_name (names_of xs) a.id) none in
+    cond-false (same_id x.id a.id) (Some x) (named_in (xs ++ a ∷ ys) a.id) (other-way x.id a.id first) ∙ found-last xs a ys (or-second (same_id a.id x.id) (has_name (names_of xs) a.id) none)
   where
     or-first : (p q : Bool) → (p || q) ≡ false → p ≡ false
     or-first true q e = absurd (let clash : true ≡ false = e in cc)

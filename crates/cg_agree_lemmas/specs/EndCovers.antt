@@ -5,7 +5,7 @@ use Rattle.std.specs.List.{list_all}
 use Rattle.std.proofs.lemmas.Bool.{cond_both, and_parts, and_from, or_left, or_right}
 use Rattle.std.proofs.lemmas.List.{append_assoc}
 use Rattle.cg_base.specs.declared.action_id.ActionId.{ActionId}
-use Rattle.cg_base.specs.Ids.{names, same_id}
+use Rattle.cg_base.specs.Ids.{has_name, same_id}
 use Rattle.cg_knowledge.specs.declared.summary.Summary.{Summary}
 use Rattle.cg_knowledge.specs.Summaries.{lower, lowest}
 use Rattle.cg_knowledge.specs.Yellow.{yellow_group, is_green_at_most, is_in_each, is_common, yellow_of, common_yellow}
@@ -38,25 +38,25 @@ lowest-of P heard low e each = subst (λ o. IfSome o P) e (lower-of P heard None
 same-itself : (id : ActionId) → same_id id id ≡ true
 same-itself id = same_id-true id id refl refl
 
-named-more : (ids : List ActionId) (first id : ActionId) → names ids id ≡ true → names (first ∷ ids) id ≡ true
-named-more ids first id e = or_right (same_id id first) (names ids id) e
+named-more : (ids : List ActionId) (first id : ActionId) → has_name ids id ≡ true → has_name (first ∷ ids) id ≡ true
+named-more ids first id e = or_right (same_id id first) (has_name ids id) e
 
-all-more : (es ys : List ActionId) (first : ActionId) → list_all (names ys) es ≡ true → list_all (names (first ∷ ys)) es ≡ true
+all-more : (es ys : List ActionId) (first : ActionId) → list_all (has_name ys) es ≡ true → list_all (has_name (first ∷ ys)) es ≡ true
 all-more [] ys first e = refl
 all-more (id ∷ es) ys first e =
-    let parts = and_parts (names ys id) (list_all (names ys) es) e in
-    and_from (names (first ∷ ys) id) (list_all (names (first ∷ ys)) es) (named-more ys first id parts.0) (all-more es ys first parts.1)
+    let parts = and_parts (has_name ys id) (list_all (has_name ys) es) e in
+    and_from (has_name (first ∷ ys) id) (list_all (has_name (first ∷ ys)) es) (named-more ys first id parts.0) (all-more es ys first parts.1)
 
 -- a list that these begin has them all
-named-front : (es ys : List ActionId) → Front es ys → list_all (names ys) es ≡ true
+named-front : (es ys : List ActionId) → Front es ys → list_all (has_name ys) es ≡ true
 named-front [] ys f = refl
 named-front (id ∷ es) [] f = absurd f
 named-front (id ∷ es) (y ∷ ys) f =
-    and_from (names (y ∷ ys) id) (list_all (names (y ∷ ys)) es)
-    (or_left (same_id id y) (names ys id) (ap (same_id id) (sym f.0) ∙ same-itself id))
+    and_from (has_name (y ∷ ys) id) (list_all (has_name (y ∷ ys)) es)
+    (or_left (same_id id y) (has_name ys id) (ap (same_id id) (sym f.0) ∙ same-itself id))
     (all-more es ys y (named-front es ys f.1))
 
-named-behind : (fs es ys : List ActionId) → Front (fs ++ es) ys → list_all (names ys) es ≡ true
+named-behind : (fs es ys : List ActionId) → Front (fs ++ es) ys → list_all (has_name ys) es ≡ true
 named-behind [] es ys f = named-front es ys f
 named-behind (x ∷ fs) es [] f = absurd f
 named-behind (x ∷ fs) es (y ∷ ys) f = all-more es ys y (named-behind fs es ys f.1)
@@ -66,15 +66,15 @@ all-each t [] each = refl
 all-each t (s ∷ heard) each = and_from (t s) (list_all t heard) each.0 (all-each t heard each.1)
 
 -- each of the names stands in each list of the group
-all-swapped : (group : List Summary) (es : List ActionId) → OfEach (λ s. list_all (names s.yellow.list) es ≡ true) group → list_all (is_in_each group) es ≡ true
+all-swapped : (group : List Summary) (es : List ActionId) → OfEach (λ s. list_all (has_name s.yellow.list) es ≡ true) group → list_all (is_in_each group) es ≡ true
 unfolding is_in_each
 all-swapped group [] each = refl
 all-swapped group (id ∷ es) each =
     and_from (is_in_each group id) (list_all (is_in_each group) es)
-    (all-each (λ s. names s.yellow.list id) group (of_each-weaker (λ s. list_all (names s.yellow.list) (id ∷ es) ≡ true) (λ s. names s.yellow.list id ≡ true)
-    (λ s e. (and_parts (names s.yellow.list id) (list_all (names s.yellow.list) es) e).0) group each))
-    (all-swapped group es (of_each-weaker (λ s. list_all (names s.yellow.list) (id ∷ es) ≡ true) (λ s. list_all (names s.yellow.list) es ≡ true)
-    (λ s e. (and_parts (names s.yellow.list id) (list_all (names s.yellow.list) es) e).1) group each))
+    (all-each (λ s. has_name s.yellow.list id) group (of_each-weaker (λ s. list_all (has_name s.yellow.list) (id ∷ es) ≡ true) (λ s. has_name s.yellow.list id ≡ true)
+    (λ s e. (and_parts (has_name s.yellow.list id) (list_all (has_name s.yellow.list) es) e).0) group each))
+    (all-swapped group es (of_each-weaker (λ s. list_all (has_name s.yellow.list) (id ∷ es) ≡ true) (λ s. list_all (has_name s.yellow.list) es ≡ true)
+    (λ s e. (and_parts (has_name s.yellow.list id) (list_all (has_name s.yellow.list) es) e).1) group each))
 
 all-common : (heard : List Summary) (es : List ActionId) → list_all (is_in_each (yellow_group heard)) es ≡ true → list_all (λ id. not (is_green_at_most heard id)) es ≡ true →
     list_all (is_common heard) es ≡ true
@@ -131,7 +131,7 @@ module _ (heard : List Summary) (top reach : List ActionId) (mine : Summary → 
       let gs = mine low in
       let fs = drop (length gs) top in
       let is : CoversWith top reach gs low.yellow.list = lowest-of (λ s. CoversWith top reach (mine s) s.yellow.list) group low e each in
-      let named = of_each-weaker (λ s. CoversWith top reach (mine s) s.yellow.list) (λ s. list_all (names s.yellow.list) beyond ≡ true)
+      let named = of_each-weaker (λ s. CoversWith top reach (mine s) s.yellow.list) (λ s. list_all (has_name s.yellow.list) beyond ≡ true)
       (λ s c. named-behind (drop (length (mine s)) top) beyond s.yellow.list (Front-rest (mine s) (drop (length (mine s)) top ++ beyond) s.yellow.list (member-front s c))) group each in
       let split : top ≡ gs ++ fs = split_by_Front gs top is.front in
       let pass = all-common heard beyond (all-swapped group beyond named) new in

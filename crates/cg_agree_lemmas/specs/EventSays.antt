@@ -6,7 +6,7 @@ use Rattle.std.proofs.lemmas.Bool.{cases_eq, cases_Bool, cond-true, cond-false, 
 use Rattle.std.proofs.lemmas.List.{map-append}
 use Rattle.cg_base.specs.declared.action_id.ActionId.{ActionId}
 use Rattle.cg_base.specs.declared.weighted.Weighted.{Weighted}
-use Rattle.cg_base.specs.Ids.{same_id, names}
+use Rattle.cg_base.specs.Ids.{same_id, has_name}
 use Rattle.cg_base.specs.IdLaws.{same_id-false}
 use Rattle.cg_action.specs.declared.action.Action.{Action}
 use Rattle.cg_queue.specs.Queue.{names_of}
@@ -38,7 +38,7 @@ made_ids made = map (λ m. m.id) made
 
 -- between two points of a step these own actions were made, and these replies given to own actions, and no other
 pub record Said (g h : StepInProgress) (p : ℕ) (new : List ActionId) (given : List Reply) : Type 0 where
-  pub made : (i : ℕ) → names (made_ids h.made) (own_name p i) ≡ (names (made_ids g.made) (own_name p i) || names new (own_name p i))
+  pub made : (i : ℕ) → has_name (made_ids h.made) (own_name p i) ≡ (has_name (made_ids g.made) (own_name p i) || has_name new (own_name p i))
   pub count : (i : ℕ) → times (own_name p i) (ids_in h.replies) ≡ times (own_name p i) (ids_in g.replies) + times (own_name p i) (reply_ids given)
   pub from : (r : Reply) → r.id.creator ≡ p → IsIn (plain h.replies) r → IsIn (plain g.replies) r ⊎ IsIn given r
 
@@ -48,7 +48,7 @@ or-none false = refl
 
 pub said-none : (g h : StepInProgress) (p : ℕ) → h.made ≡ g.made → h.replies ≡ g.replies → Said g h p [] []
 said-none g h p made replies = record {
-  made = λ i. ap (λ list. names (made_ids list) (own_name p i)) made ∙ sym (or-none (names (made_ids g.made) (own_name p i)));
+  made = λ i. ap (λ list. has_name (made_ids list) (own_name p i)) made ∙ sym (or-none (has_name (made_ids g.made) (own_name p i)));
   count = λ i. ap (λ list. times (own_name p i) (ids_in list)) replies ∙ (let n = times (own_name p i) (ids_in g.replies) in let same : n ≡ n + 0 = omega arith in same);
   from = λ r mine there. inl (subst (λ list. IsIn (plain list) r) replies there);
 }
@@ -56,7 +56,7 @@ said-none g h p made replies = record {
 -- nothing, and then something; or something, and then nothing
 pub said-later : (g h k : StepInProgress) (p : ℕ) (made : List ActionId) (replies : List Reply) → Said g h p [] [] → Said h k p made replies → Said g k p made replies
 said-later g h k p made replies a b = record {
-  made = λ i. b.made i ∙ ap (λ x. x || names made (own_name p i)) (a.made i ∙ or-none (names (made_ids g.made) (own_name p i)));
+  made = λ i. b.made i ∙ ap (λ x. x || has_name made (own_name p i)) (a.made i ∙ or-none (has_name (made_ids g.made) (own_name p i)));
   count = λ i. (let one = a.count i in let two = b.count i in omega arith);
   from = λ r mine there. elim (b.from r mine there) [
     | inl before ↦ elim (a.from r mine before) [ inl first ↦ inl first | inr none ↦ absurd none ]
@@ -66,7 +66,7 @@ said-later g h k p made replies a b = record {
 
 pub said-before : (g h k : StepInProgress) (p : ℕ) (made : List ActionId) (replies : List Reply) → Said g h p made replies → Said h k p [] [] → Said g k p made replies
 said-before g h k p made replies a b = record {
-  made = λ i. b.made i ∙ or-none (names (made_ids h.made) (own_name p i)) ∙ a.made i;
+  made = λ i. b.made i ∙ or-none (has_name (made_ids h.made) (own_name p i)) ∙ a.made i;
   count = λ i. (let one = a.count i in let two = b.count i in omega arith);
   from = λ r mine there. elim (b.from r mine there) [ inl before ↦ a.from r mine before | inr none ↦ absurd none ];
 }
@@ -77,9 +77,9 @@ made-named : (made : List Action) → made_ids (map made_of_action made) ≡ nam
 made-named [] = refl
 made-named (a ∷ made) = ap (λ ids. a.id ∷ ids) (made-named made)
 
-pub names-both : (xs ys : List ActionId) (id : ActionId) → names (xs ++ ys) id ≡ (names xs id || names ys id)
+pub names-both : (xs ys : List ActionId) (id : ActionId) → has_name (xs ++ ys) id ≡ (has_name xs id || has_name ys id)
 names-both [] ys id = refl
-names-both (x ∷ xs) ys id = ap (λ b. same_id id x || b) (names-both xs ys id) ∙ assoc (same_id id x) (names xs id) (names ys id) where
+names-both (x ∷ xs) ys id = ap (λ b. same_id id x || b) (names-both xs ys id) ∙ assoc (same_id id x) (has_name xs id) (has_name ys id) where
   assoc : (a b c : Bool) → (a || (b || c)) ≡ ((a || b) || c)
   assoc true b c = refl
   assoc false b c = refl
@@ -89,7 +89,7 @@ tell-said g n p among =
     let new = answered_from (n.count - length n.green) n.green n.replies in
     let all : plain new ≡ n.replies = answered-all n.green (n.count - length n.green) n.replies among in
     record {
-      made = λ i. ap (λ ids. names ids (own_name p i)) (map-append (λ (m : Made). m.id) g.made (map made_of_action n.made) ∙ ap (λ ids. made_ids g.made ++ ids) (made-named n.made))
+      made = λ i. ap (λ ids. has_name ids (own_name p i)) (map-append (λ (m : Made). m.id) g.made (map made_of_action n.made) ∙ ap (λ ids. made_ids g.made ++ ids) (made-named n.made))
           ∙ names-both (made_ids g.made) (names_of n.made) (own_name p i);
       count = λ i. times-all (own_name p i) new g.replies ∙ ap (λ rs. times (own_name p i) (ids_in g.replies) + times (own_name p i) (reply_ids rs)) all;
       from = λ r mine there. elim (in-all new g.replies r there) [ inl before ↦ inl before | inr now ↦ inr (subst (λ rs. IsIn rs r) all now) ];
@@ -144,7 +144,7 @@ others-said g q base old t (Runs r disk) p says apart =
     let among = among-chosen (is_behind q base) t.green t.replies (says.replies ∙ ap (filter (is_behind q base)) (sym says.answered.green)) in
     let is = ended-said g q t (Runs r disk) p among in
     record {
-      made = λ i. is.made i ∙ ap (λ b. names (made_ids g.made) (own_name p i) || b) (ap (λ ids. names ids (own_name p i)) says.made ∙ own-other q p _ says.count i apart);
+      made = λ i. is.made i ∙ ap (λ b. has_name (made_ids g.made) (own_name p i) || b) (ap (λ ids. has_name ids (own_name p i)) says.made ∙ own-other q p _ says.count i apart);
       count = λ i. is.count i ∙ ap (λ n. times (own_name p i) (ids_in g.replies) + n) (ap (times (own_name p i)) says.replies ∙ times-chosen p q base i (names_of says.answered.more) apart);
       from = λ r mine there. elim (is.from r mine there) [
         | inl before ↦ inl before

@@ -7,7 +7,7 @@ use Rattle.std.proofs.lemmas.Bool.{cases_Bool, eq-eqb, lt-ltb, le-leb, and_parts
 use Rattle.std.proofs.lemmas.List.{append_assoc, map-append}
 use Rattle.cg_base.specs.declared.action_id.ActionId.{ActionId}
 use Rattle.cg_base.specs.declared.weighted.Weighted.{Weighted}
-use Rattle.cg_base.specs.Ids.{names, same_id}
+use Rattle.cg_base.specs.Ids.{has_name, same_id}
 use Rattle.cg_base.specs.Cuts.{index_in, raise}
 use Rattle.cg_base.specs.IdLaws.{same_id-is, same_id-back}
 use Rattle.cg_action.specs.declared.action.Action.{Action}
@@ -69,7 +69,7 @@ reds-green start all t is =
 -- ---- yellow actions
 
 -- the kept actions of names that stand among the reds have these names
-one-named : (greens reds : List Action) (id : ActionId) → names (names_of reds) id ≡ true →
+one-named : (greens reds : List Action) (id : ActionId) → has_name (names_of reds) id ≡ true →
     names_of (option_to_list (find (λ a. same_id a.id id) (greens ++ reds))) ≡ id ∷ []
 one-named (g ∷ greens) reds id there = elim (cases_Bool (same_id g.id id)) [
   | inl same ↦ rw same (ap (λ x. x ∷ []) (same_id-is g.id id same))
@@ -80,17 +80,17 @@ one-named [] (a ∷ reds) id there = elim (cases_Bool (same_id a.id id)) [
   | inl same ↦ rw same (ap (λ x. x ∷ []) (same_id-is a.id id same))
   | inr other ↦ rw other (one-named [] reds id (rest (cases_Bool (same_id id a.id)) other))
 ] where
-  rest : (same_id id a.id ≡ true) ⊎ (same_id id a.id ≡ false) → same_id a.id id ≡ false → names (names_of reds) id ≡ true
+  rest : (same_id id a.id ≡ true) ⊎ (same_id id a.id ≡ false) → same_id a.id id ≡ false → has_name (names_of reds) id ≡ true
   rest (inl same) other = absurd (let clash : true ≡ false = sym (same_id-back id a.id same) ∙ other in cc)
-  rest (inr apart) other = ap (λ b. b || names (names_of reds) id) (sym apart) ∙ there
+  rest (inr apart) other = ap (λ b. b || has_name (names_of reds) id) (sym apart) ∙ there
 
 abbrev are_red : QueueView → List ActionId → Bool
-are_red q ids = list_all (λ id. names (names_of q.reds) id) ids
+are_red q ids = list_all (λ id. has_name (names_of q.reds) id) ids
 
 all-named : (q : QueueView) (ids : List ActionId) → are_red q ids ≡ true → names_of (actions_named q ids) ≡ ids
 all-named q [] red = refl
 all-named q (id ∷ ids) red =
-    let parts = and_parts (names (names_of q.reds) id) (are_red q ids) red in
+    let parts = and_parts (has_name (names_of q.reds) id) (are_red q ids) red in
     map-append (λ (a : Action). a.id) (option_to_list (action_of q id)) (actions_named q ids)
     ∙ ap₂ (λ xs ys. xs ++ ys) (one-named q.greens q.reds id parts.0) (all-named q ids parts.1)
 
@@ -103,11 +103,11 @@ yellow-red start h all is cut (id ∷ ids) rising up run known =
     let next : id.index ≡ suc (index_in cut id.creator) = run-head cut id ids run in
     let above : index_in gc id.creator ≤ index_in cut id.creator = up id.creator in
     let parts = and_parts (nat_le id.index (index_in h.queue.red_cut id.creator)) (are_within h.queue.red_cut ids) known in
-    let here : names (names_of h.queue.reds) id ≡ true =
+    let here : has_name (names_of h.queue.reds) id ≡ true =
     run-names gc (names_of h.queue.reds) id (rising-green start h all is) is.contiguous.reds
     ∙ and_from (nat_lt (index_in gc id.creator) id.index) (nat_le id.index (index_in (cut_behind gc (names_of h.queue.reds)) id.creator))
     (lt-ltb (index_in gc id.creator) id.index (omega arith)) (ap (λ c. nat_le id.index (index_in c id.creator)) (sym is.made_of.red_cut) ∙ parts.0) in
-    and_from (names (names_of h.queue.reds) id) (are_red h.queue ids) here
+    and_from (has_name (names_of h.queue.reds) id) (are_red h.queue ids) here
     (yellow-red start h all is (raise cut id) ids (rising-raise cut id rising)
     (λ p. (let one : index_in gc p ≤ index_in cut p = up p in let more : index_in cut p ≤ index_in (raise cut id) p = behind-rises cut (id ∷ []) p rising in omega arith))
     (run-rest cut id ids run) parts.1)

@@ -5,7 +5,7 @@ use Rattle.std.proofs.lemmas.Bool.{cases_eq, cases_order, cases_Bool, eq-eqb, ne
 use Rattle.std.proofs.lemmas.List.{append_assoc}
 use Rattle.cg_base.specs.declared.action_id.ActionId.{ActionId}
 use Rattle.cg_base.specs.declared.weighted.Weighted.{Weighted}
-use Rattle.cg_base.specs.Ids.{names, same_id}
+use Rattle.cg_base.specs.Ids.{has_name, same_id}
 use Rattle.cg_base.specs.Cuts.{index_in, raise}
 use Rattle.cg_action.specs.declared.action.Action.{Action}
 use Rattle.cg_queue.specs.Queue.{Marks, Gaps, names_of, and_yellow, with_yellow, marked_yellow, placed_red, without_action}
@@ -114,7 +114,7 @@ yellow-kept-so start all t a is yellow =
 
 -- the reds without those of these names
 abbrev pub reds_but : List ActionId → List Action → List Action
-reds_but ids reds = filter (λ a. not (names ids a.id)) reds
+reds_but ids reds = filter (λ a. not (has_name ids a.id)) reds
 
 pub record GreenRun (start : List Weighted) (old new : Held) (all list : List Action) : Type 0 where
   pub kept : new.queue.greens ≡ old.queue.greens ++ list
@@ -131,7 +131,7 @@ reds-step : (id : ActionId) (ids : List ActionId) (reds : List Action) → reds_
 reds-step id ids [] = refl
 reds-step id ids (a ∷ reds) = elim (cases_Bool (same_id a.id id)) [
   | inl same ↦ rw same (reds-step id ids reds)
-  | inr other ↦ rw other (elim (cases_Bool (names ids a.id)) [
+  | inr other ↦ rw other (elim (cases_Bool (has_name ids a.id)) [
     | inl named ↦ rw named (reds-step id ids reds)
     | inr unnamed ↦ rw unnamed (ap (λ xs. a ∷ xs) (reds-step id ids reds))
   ])

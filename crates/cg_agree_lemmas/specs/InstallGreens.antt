@@ -7,7 +7,7 @@ use Rattle.std.proofs.lemmas.Bool.{cond_both}
 use Rattle.std.proofs.lemmas.List.Sums.{fold-append}
 use Rattle.cg_base.specs.declared.weighted.Weighted.{Weighted}
 use Rattle.cg_base.specs.Cuts.{index_in}
-use Rattle.cg_base.specs.Ids.{names}
+use Rattle.cg_base.specs.Ids.{has_name}
 use Rattle.cg_base.specs.Lists.{at_place}
 use Rattle.cg_base.specs.Sets.{is_within, with_member}
 use Rattle.cg_action.specs.declared.action.Action.{Action}
@@ -45,7 +45,7 @@ yellow-greens t a =
     (λ z. cond_both (a.id.index == suc cut) (Marks Placed (placed_red q a)) (Gaps cut) (λ m. (marked t a (and_yellow a.id m)).replica.held.queue.greens ≡ q.greens) (λ y. named (placed_red q a)) (λ w. refl))) where
       named : (q : QueueView) → (with_yellow q a.id).greens ≡ q.greens
       named q =
-          cond_both (nat_lt (index_in q.green_cut a.id.creator) a.id.index && not (names q.yellow a.id)) (record q { yellow = q.yellow ++ a.id ∷ [] }) q (λ (x : QueueView). x.greens ≡ q.greens) (λ y. refl) (λ n. refl)
+          cond_both (nat_lt (index_in q.green_cut a.id.creator) a.id.index && not (has_name q.yellow a.id)) (record q { yellow = q.yellow ++ a.id ∷ [] }) q (λ (x : QueueView). x.greens ≡ q.greens) (λ y. refl) (λ n. refl)
 
 -- the replica has these greens more
 abbrev pub HasInstalledAll : Replica → Replica → Type 0

@@ -7,7 +7,7 @@ use Rattle.std.proofs.lemmas.Bool.{cases_Bool, cond-false, and_parts, not-true, 
 use Rattle.cg_base.specs.declared.action_id.ActionId.{ActionId}
 use Rattle.cg_base.specs.declared.weighted.Weighted.{Weighted}
 use Rattle.cg_base.specs.Cuts.{index_in}
-use Rattle.cg_base.specs.Ids.{same_id, names}
+use Rattle.cg_base.specs.Ids.{same_id, has_name}
 use Rattle.cg_action.specs.declared.action.Action.{Action}
 use Rattle.cg_queue.specs.Queue.{QueueView, names_of, action_of, discarded}
 use Rattle.cg_group.specs.declared.phase.Phase.{Phase}
@@ -132,10 +132,10 @@ or-none true b e = absurd (let clash : true ≡ false = e in cc)
 or-none false b e = (refl, e)
 
 -- no green has the name of an action above the green cut
-none-green : (actions : List Action) (id : ActionId) → names (names_of actions) id ≡ false → find (λ (a : Action). same_id a.id id) actions ≡ None
+none-green : (actions : List Action) (id : ActionId) → has_name (names_of actions) id ≡ false → find (λ (a : Action). same_id a.id id) actions ≡ None
 none-green [] id e = refl
 none-green (a ∷ actions) id e =
-    let parts = or-none (same_id id a.id) (names (names_of actions) id) e in
+    let parts = or-none (same_id id a.id) (has_name (names_of actions) id) e in
     cond-false (same_id a.id id) (Some a) (find (λ (a : Action). same_id a.id id) actions) (turned (same_id a.id id) refl parts.0) ∙ none-green actions id parts.1 where
       turned : (b : Bool) → same_id a.id id ≡ b → same_id id a.id ≡ false → same_id a.id id ≡ false
       turned true e apart =
@@ -150,16 +150,16 @@ find-behind (x ∷ xs) ys t none = at (t x) none (λ rest. find-behind xs ys t r
   at true none rest = absurd (let clash : Some x ≡ None = none in cc)
   at false none rest = rest none
 
-names-drop : (n : ℕ) (xs : List Action) (id : ActionId) → names (names_of xs) id ≡ false → names (names_of (drop n xs)) id ≡ false
+names-drop : (n : ℕ) (xs : List Action) (id : ActionId) → has_name (names_of xs) id ≡ false → has_name (names_of (drop n xs)) id ≡ false
 names-drop zero xs id e = e
 names-drop (suc n) [] id e = e
-names-drop (suc n) (x ∷ xs) id e = names-drop n xs id (or-none (same_id id x.id) (names (names_of xs) id) e).1
+names-drop (suc n) (x ∷ xs) id e = names-drop n xs id (or-none (same_id id x.id) (has_name (names_of xs) id) e).1
 
 -- A name above the green cut is found among the reds alone.
 named-red : (start : List Weighted) (h : Held) (all : List Action) (id : ActionId) → IsOneself start h all → index_in h.queue.green_cut id.creator < id.index →
     action_of h.queue id ≡ find (λ (a : Action). same_id a.id id) h.queue.reds
 named-red start h all id is above =
-    let none : names (names_of all) id ≡ false = run-names [] (names_of all) id tt is.contiguous.greens ∙ outside (nat_lt 0 id.index) (index_in (cut_behind [] (names_of all)) id.creator)
+    let none : has_name (names_of all) id ≡ false = run-names [] (names_of all) id tt is.contiguous.greens ∙ outside (nat_lt 0 id.index) (index_in (cut_behind [] (names_of all)) id.creator)
     (subst (λ gc. index_in gc id.creator < id.index) is.made_of.green_cut above) in
     find-behind h.queue.greens h.queue.reds (λ a. same_id a.id id)
     (ap (find (λ (a : Action). same_id a.id id)) is.made_of.kept ∙ none-green (drop h.queue.white all) id (names-drop h.queue.white all id none)) where

@@ -4,7 +4,7 @@ use Rattle.std.specs.Prelude.{◌==◌}
 use Rattle.std.proofs.lemmas.Bool.{cases_Bool, cases_lt, cond-true, cond-false, and_parts, or_cases, lt-ltb, le-leb}
 use Rattle.std.proofs.lemmas.List.Elements.{Contains-append_left, Contains-append_right}
 use Rattle.cg_base.specs.declared.action_id.ActionId.{ActionId}
-use Rattle.cg_base.specs.Ids.{names, same_id}
+use Rattle.cg_base.specs.Ids.{has_name, same_id}
 use Rattle.cg_base.specs.Cuts.{index_in}
 use Rattle.cg_base.specs.IdLaws.{same_name}
 use Rattle.cg_action.specs.declared.action.Action.{Action}
@@ -26,9 +26,9 @@ contains-here x xs = (0, (omega arith), refl)
 pub contains-later : {X : Type 0} (y x : X) (xs : List X) → Contains xs x → Contains (y ∷ xs) x
 contains-later y x xs is = Contains-append_right (y ∷ []) xs x is
 
-pub contains-named : (ids : List ActionId) (id : ActionId) → names ids id ≡ true → Contains ids id
+pub contains-named : (ids : List ActionId) (id : ActionId) → has_name ids id ≡ true → Contains ids id
 contains-named [] id is = absurd (let clash : false ≡ true = is in cc)
-contains-named (x ∷ ids) id is = elim (or_cases (same_id id x) (names ids id) is) [
+contains-named (x ∷ ids) id is = elim (or_cases (same_id id x) (has_name ids id) is) [
   | inl here ↦
       let parts = and_parts (id.creator == x.creator) (id.index == x.index) here in
       subst (λ (y : ActionId). Contains (x ∷ ids) y) (sym (same_name id x (eqb-true id.creator x.creator parts.0) (eqb-true id.index x.index parts.1))) (contains-here x ids)
@@ -39,25 +39,25 @@ contains-named (x ∷ ids) id is = elim (or_cases (same_id id x) (names ids id) 
 
 module _ (yellow : List ActionId) where
   abbrev plain : List Action → List Action
-  plain reds = filter (λ a. not (names yellow a.id)) reds
+  plain reds = filter (λ a. not (has_name yellow a.id)) reds
 
-  same-named : (id x : ActionId) → same_id id x ≡ true → names yellow x ≡ names yellow id
+  same-named : (id x : ActionId) → same_id id x ≡ true → has_name yellow x ≡ has_name yellow id
   same-named id x is =
       let parts = and_parts (id.creator == x.creator) (id.index == x.index) is in
-      ap (names yellow) (sym (same_name id x (eqb-true id.creator x.creator parts.0) (eqb-true id.index x.index parts.1)))
+      ap (has_name yellow) (sym (same_name id x (eqb-true id.creator x.creator parts.0) (eqb-true id.index x.index parts.1)))
 
-  plain-named : (reds : List Action) (id : ActionId) → names (names_of reds) id ≡ true → names yellow id ≡ false → names (names_of (plain reds)) id ≡ true
+  plain-named : (reds : List Action) (id : ActionId) → has_name (names_of reds) id ≡ true → has_name yellow id ≡ false → has_name (names_of (plain reds)) id ≡ true
   plain-named [] id is out = is
   plain-named (a ∷ reds) id is out = elim (cases_Bool (same_id id a.id)) [
     | inl here ↦
-        let keeps : not (names yellow a.id) ≡ true = ap not (same-named id a.id here ∙ out) in
-        ap (λ (xs : List Action). names (names_of xs) id) (cond-true (not (names yellow a.id)) (a ∷ plain reds) (plain reds) keeps) ∙ ap (λ b. b || names (names_of (plain reds)) id) here
+        let keeps : not (has_name yellow a.id) ≡ true = ap not (same-named id a.id here ∙ out) in
+        ap (λ (xs : List Action). has_name (names_of xs) id) (cond-true (not (has_name yellow a.id)) (a ∷ plain reds) (plain reds) keeps) ∙ ap (λ b. b || has_name (names_of (plain reds)) id) here
     | inr other ↦
-        let rest = plain-named reds id (sym (ap (λ b. b || names (names_of reds) id) other) ∙ is) out in
-        elim (cases_Bool (not (names yellow a.id))) [
+        let rest = plain-named reds id (sym (ap (λ b. b || has_name (names_of reds) id) other) ∙ is) out in
+        elim (cases_Bool (not (has_name yellow a.id))) [
           | inl keeps ↦
-              ap (λ (xs : List Action). names (names_of xs) id) (cond-true (not (names yellow a.id)) (a ∷ plain reds) (plain reds) keeps) ∙ ap (λ b. b || names (names_of (plain reds)) id) other ∙ rest
-          | inr drops ↦ ap (λ (xs : List Action). names (names_of xs) id) (cond-false (not (names yellow a.id)) (a ∷ plain reds) (plain reds) drops) ∙ rest
+              ap (λ (xs : List Action). has_name (names_of xs) id) (cond-true (not (has_name yellow a.id)) (a ∷ plain reds) (plain reds) keeps) ∙ ap (λ b. b || has_name (names_of (plain reds)) id) other ∙ rest
+          | inr drops ↦ ap (λ (xs : List Action). has_name (names_of xs) id) (cond-false (not (has_name yellow a.id)) (a ∷ plain reds) (plain reds) drops) ∙ rest
         ]
   ]
 
@@ -83,11 +83,11 @@ module _ (c : Chronicle) (h : Held) (all : List Action) (core : IsCore c h all) 
 
   red-there : index_in q.green_cut id.creator < id.index → id.index ≤ index_in q.red_cut id.creator → Contains (names_of (plain_reds q) ++ q.yellow) id
   red-there low high =
-      let named : names (names_of q.reds) id ≡ true =
+      let named : has_name (names_of q.reds) id ≡ true =
       run-names q.green_cut (names_of q.reds) id green-rises core.contiguous.reds
       ∙ ap₂ (λ a b. a && b) (lt-ltb (index_in q.green_cut id.creator) id.index low)
       (le-leb id.index (index_in (cut_behind q.green_cut (names_of q.reds)) id.creator) (subst (λ cut. id.index ≤ index_in cut id.creator) core.made_of.red_cut high)) in
-      elim (cases_Bool (names q.yellow id)) [
+      elim (cases_Bool (has_name q.yellow id)) [
         | inl marked ↦ Contains-append_right (names_of (plain_reds q)) q.yellow id (contains-named q.yellow id marked)
         | inr not_marked ↦ Contains-append_left (names_of (plain_reds q)) q.yellow id (contains-named (names_of (plain_reds q)) id (plain-named q.yellow q.reds id named not_marked))
       ]

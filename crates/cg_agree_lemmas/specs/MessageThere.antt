@@ -5,7 +5,7 @@ use Rattle.std.specs.Option.{option_map_or}
 use Rattle.std.proofs.lemmas.Bool.{cases_Bool, cond-true, cond-false, and_parts, and_from, or_left, or_right, leb-true}
 use Rattle.cg_base.specs.declared.action_id.ActionId.{ActionId}
 use Rattle.cg_base.specs.Cuts.{index_in}
-use Rattle.cg_base.specs.Ids.{same_id, names}
+use Rattle.cg_base.specs.Ids.{same_id, has_name}
 use Rattle.cg_action.specs.declared.action.Action.{Action}
 use Rattle.cg_queue.specs.Queue.{names_of}
 use Rattle.cg_wire.specs.declared.message.Msg.{Msg}
@@ -53,11 +53,11 @@ turned m n e =
     and_from (n.creator == m.creator) (n.index == m.index) (eqb_comm n.creator m.creator ∙ parts.0) (eqb_comm n.index m.index ∙ parts.1)
 
 -- a booked name is one of the book's
-found-named : (book : List Action) (id : ActionId) (a : Action) → find (λ (b : Action). same_id b.id id) book ≡ Some a → names (names_of book) id ≡ true
+found-named : (book : List Action) (id : ActionId) (a : Action) → find (λ (b : Action). same_id b.id id) book ≡ Some a → has_name (names_of book) id ≡ true
 found-named [] id a e = absurd (let clash : None ≡ Some a = e in cc)
 found-named (b ∷ book) id a e = ⊎_elim
-    (λ here. or_left (same_id id b.id) (names (names_of book) id) (turned b.id id here))
-    (λ other. or_right (same_id id b.id) (names (names_of book) id)
+    (λ here. or_left (same_id id b.id) (has_name (names_of book) id) (turned b.id id here))
+    (λ other. or_right (same_id id b.id) (has_name (names_of book) id)
     (found-named book id a (sym (cond-false (same_id b.id id) (Some b) (find (λ (b : Action). same_id b.id id) book) other) ∙ e)))
     (cases_Bool (same_id b.id id))
 

@@ -4,7 +4,7 @@ use Rattle.std.specs.Prelude.{◌==◌, nat_lt, nat_le}
 use Rattle.std.proofs.lemmas.Bool.{cases_eq, cases_lt, cases_Bool, and_parts, and_from, or_cases, or_left, lt-ltb, le-leb, le-ltb, ltb-true, leb-true, ne_eqb}
 use Rattle.cg_base.specs.declared.action_id.ActionId.{ActionId}
 use Rattle.cg_base.specs.Cuts.{index_in}
-use Rattle.cg_base.specs.Ids.{same_id, id_before, names}
+use Rattle.cg_base.specs.Ids.{same_id, id_before, has_name}
 use Rattle.cg_base.specs.IdLaws.{same_id-true, same_id-false, same_name}
 use Rattle.cg_base.specs.Lists.{count_up, Each}
 use Rattle.cg_base.specs.Sets.{has}
@@ -44,45 +44,45 @@ before-apart x y one two = ⊎_elim
     (before-parts x y one)
 
 -- a name among those that follow comes later
-named-later : (x y : ActionId) (ids : List ActionId) → Each (λ z. id_before x z ≡ true) ids → names ids y ≡ true → id_before x y ≡ true
+named-later : (x y : ActionId) (ids : List ActionId) → Each (λ z. id_before x z ≡ true) ids → has_name ids y ≡ true → id_before x y ≡ true
 named-later x y [] each e = absurd (let clash : false ≡ true = e in cc)
 named-later x y (z ∷ ids) each e = ⊎_elim
     (λ here. subst (λ w. id_before x w ≡ true) (sym (same-parts y z here)) each.0)
     (λ there. named-later x y ids each.1 there)
-    (or_cases (same_id y z) (names ids y) e)
+    (or_cases (same_id y z) (has_name ids y) e)
 
 -- a name that is first in order doesn't stand among the others
-absent : (x : ActionId) (ids : List ActionId) → ascend (x ∷ ids) ≡ true → names ids x ≡ false
-absent x ids up = ⊎_elim (λ there. (let later = named-later x x ids (ascend-each x ids up) there in absurd (before-apart x x later later))) (λ none. none) (cases_Bool (names ids x))
+absent : (x : ActionId) (ids : List ActionId) → ascend (x ∷ ids) ≡ true → has_name ids x ≡ false
+absent x ids up = ⊎_elim (λ there. (let later = named-later x x ids (ascend-each x ids up) there in absurd (before-apart x x later later))) (λ none. none) (cases_Bool (has_name ids x))
 
 -- the first of two lists in order with the same names is one
-same-first : (x y : ActionId) (xs ys : List ActionId) → ascend (x ∷ xs) ≡ true → ascend (y ∷ ys) ≡ true → ((id : ActionId) → names (x ∷ xs) id ≡ names (y ∷ ys) id) → x ≡ y
+same-first : (x y : ActionId) (xs ys : List ActionId) → ascend (x ∷ xs) ≡ true → ascend (y ∷ ys) ≡ true → ((id : ActionId) → has_name (x ∷ xs) id ≡ has_name (y ∷ ys) id) → x ≡ y
 same-first x y xs ys up down same =
-    let mine : names (y ∷ ys) x ≡ true = sym (same x) ∙ or_left (same_id x x) (names xs x) (same-itself x) in
-    let other : names (x ∷ xs) y ≡ true = same y ∙ or_left (same_id y y) (names ys y) (same-itself y) in
+    let mine : has_name (y ∷ ys) x ≡ true = sym (same x) ∙ or_left (same_id x x) (has_name xs x) (same-itself x) in
+    let other : has_name (x ∷ xs) y ≡ true = same y ∙ or_left (same_id y y) (has_name ys y) (same-itself y) in
     ⊎_elim
     (λ (here : same_id x y ≡ true). same-parts x y here)
-    (λ (later : names ys x ≡ true). ⊎_elim
+    (λ (later : has_name ys x ≡ true). ⊎_elim
     (λ (here : same_id y x ≡ true). sym (same-parts y x here))
-    (λ (there : names xs y ≡ true). absurd (before-apart y x (named-later y x ys (ascend-each y ys down) later) (named-later x y xs (ascend-each x xs up) there)))
-    (or_cases (same_id y x) (names xs y) other))
-    (or_cases (same_id x y) (names ys x) mine)
+    (λ (there : has_name xs y ≡ true). absurd (before-apart y x (named-later y x ys (ascend-each y ys down) later) (named-later x y xs (ascend-each x xs up) there)))
+    (or_cases (same_id y x) (has_name xs y) other))
+    (or_cases (same_id x y) (has_name ys x) mine)
 
 -- and so have the others the same names
-same-rest : (x y : ActionId) (xs ys : List ActionId) → ascend (x ∷ xs) ≡ true → ascend (y ∷ ys) ≡ true → ((id : ActionId) → names (x ∷ xs) id ≡ names (y ∷ ys) id) → x ≡ y → (id : ActionId) → names xs id ≡ names ys id
+same-rest : (x y : ActionId) (xs ys : List ActionId) → ascend (x ∷ xs) ≡ true → ascend (y ∷ ys) ≡ true → ((id : ActionId) → has_name (x ∷ xs) id ≡ has_name (y ∷ ys) id) → x ≡ y → (id : ActionId) → has_name xs id ≡ has_name ys id
 same-rest x y xs ys up down same e id = ⊎_elim
     (λ (here : same_id id x ≡ true).
     let me : id ≡ x = same-parts id x here in
-    ap (names xs) me ∙ absent x xs up ∙ sym (ap (names ys) (me ∙ e) ∙ absent y ys down))
+    ap (has_name xs) me ∙ absent x xs up ∙ sym (ap (has_name ys) (me ∙ e) ∙ absent y ys down))
     (λ (apart : same_id id x ≡ false).
-    sym (ap (λ b. b || names xs id) apart) ∙ same id ∙ ap (λ b. b || names ys id) (ap (same_id id) (sym e) ∙ apart))
+    sym (ap (λ b. b || has_name xs id) apart) ∙ same id ∙ ap (λ b. b || has_name ys id) (ap (same_id id) (sym e) ∙ apart))
     (cases_Bool (same_id id x))
 
 -- two lists in order that have the same names are one
-pub same-ascending : (xs ys : List ActionId) → ascend xs ≡ true → ascend ys ≡ true → ((id : ActionId) → names xs id ≡ names ys id) → xs ≡ ys
+pub same-ascending : (xs ys : List ActionId) → ascend xs ≡ true → ascend ys ≡ true → ((id : ActionId) → has_name xs id ≡ has_name ys id) → xs ≡ ys
 same-ascending [] [] up down same = refl
-same-ascending [] (y ∷ ys) up down same = absurd (let clash : false ≡ true = same y ∙ or_left (same_id y y) (names ys y) (same-itself y) in cc)
-same-ascending (x ∷ xs) [] up down same = absurd (let clash : false ≡ true = sym (same x) ∙ or_left (same_id x x) (names xs x) (same-itself x) in cc)
+same-ascending [] (y ∷ ys) up down same = absurd (let clash : false ≡ true = same y ∙ or_left (same_id y y) (has_name ys y) (same-itself y) in cc)
+same-ascending (x ∷ xs) [] up down same = absurd (let clash : false ≡ true = sym (same x) ∙ or_left (same_id x x) (has_name xs x) (same-itself x) in cc)
 same-ascending (x ∷ xs) (y ∷ ys) up down same =
     let e = same-first x y xs ys up down same in
     ap₂ (λ z zs. z ∷ zs) e (same-ascending xs ys (ascend-less x xs up) (ascend-less y ys down) (same-rest x y xs ys up down same e))
@@ -109,12 +109,12 @@ or-none true = refl
 or-none false = refl
 
 -- which names these are
-numbered-other : (creator from count : ℕ) (id : ActionId) → (id.creator ≡ creator → ⊥) → names (numbered creator from count) id ≡ false
+numbered-other : (creator from count : ℕ) (id : ActionId) → (id.creator ≡ creator → ⊥) → has_name (numbered creator from count) id ≡ false
 numbered-other creator from zero id other = refl
 numbered-other creator from (suc count) id other =
-    ap (λ b. b || names (numbered creator (suc from) count) id) (same_id-false id (record { creator = creator; index = from }) (inl other)) ∙ numbered-other creator (suc from) count id other
+    ap (λ b. b || has_name (numbered creator (suc from) count) id) (same_id-false id (record { creator = creator; index = from }) (inl other)) ∙ numbered-other creator (suc from) count id other
 
-numbered-here : (creator from count : ℕ) (id : ActionId) → id.creator ≡ creator → names (numbered creator from count) id ≡ (nat_le from id.index && nat_lt id.index (from + count))
+numbered-here : (creator from count : ℕ) (id : ActionId) → id.creator ≡ creator → has_name (numbered creator from count) id ≡ (nat_le from id.index && nat_lt id.index (from + count))
 numbered-here creator from zero id here = sym (⊎_elim
     (λ (lt : id.index < from). ap (λ b. b && nat_lt id.index (from + 0)) (lt-leb' id.index from lt))
     (λ (le : from ≤ id.index). ap (λ b. nat_le from id.index && b) (le-ltb id.index (from + 0) (omega arith)) ∙ and-none (nat_le from id.index))
@@ -127,10 +127,10 @@ numbered-here creator from zero id here = sym (⊎_elim
       lt-leb' n m lt = ⊎_elim (λ y. absurd (let le = leb-true m n y in omega arith)) (λ f. f) (cases_Bool (nat_le m n))
 numbered-here creator from (suc count) id here = ⊎_elim
     (λ (this : id.index ≡ from).
-    ap (λ b. b || names (numbered creator (suc from) count) id) (same_id-true id (record { creator = creator; index = from }) here this)
+    ap (λ b. b || has_name (numbered creator (suc from) count) id) (same_id-true id (record { creator = creator; index = from }) here this)
     ∙ sym (and_from (nat_le from id.index) (nat_lt id.index (from + suc count)) (le-leb from id.index (omega arith)) (lt-ltb id.index (from + suc count) (omega arith))))
     (λ (other : id.index ≡ from → ⊥).
-    ap (λ b. b || names (numbered creator (suc from) count) id) (same_id-false id (record { creator = creator; index = from }) (inr other))
+    ap (λ b. b || has_name (numbered creator (suc from) count) id) (same_id-false id (record { creator = creator; index = from }) (inr other))
     ∙ numbered-here creator (suc from) count id here ∙ ap₂ (λ a b. a && b) (later from id.index other) (ap (nat_lt id.index) (shift from count)))
     (cases_eq id.index from)
   where
@@ -151,7 +151,7 @@ numbered-here creator from (suc count) id here = ⊎_elim
           below' : (n m : ℕ) → m ≤ n → (m ≡ n → ⊥) → m < n
           below' n m le less = ⊎_elim (λ (lt : m < n). lt) (λ (ge : n ≤ m). absurd (less (omega arith))) (cases_lt m n)
 
-names-above : (low high creator : ℕ) (id : ActionId) → id.creator ≡ creator → names (names_above low high creator) id ≡ (nat_lt low id.index && nat_le id.index high)
+names-above : (low high creator : ℕ) (id : ActionId) → id.creator ≡ creator → has_name (names_above low high creator) id ≡ (nat_lt low id.index && nat_le id.index high)
 names-above low high creator id here = numbered-here creator (suc low) (high - low) id here ∙ within low high id.index where
   within : (low high n : ℕ) → (nat_le (suc low) n && nat_lt n (suc low + (high - low))) ≡ (nat_lt low n && nat_le n high)
   within low high n = ⊎_elim
@@ -195,18 +195,18 @@ creators-ascend low high (creator ∷ list) from rising =
 
 -- a name stands among them where its creator does
 creators-names : (low high : ℕ → ℕ) (list : List ℕ) (from : ℕ) (id : ActionId) → IsRising from list →
-    names (names_of_creators low high list) id ≡ (has list id.creator && (nat_lt (low id.creator) id.index && nat_le id.index (high id.creator)))
+    has_name (names_of_creators low high list) id ≡ (has list id.creator && (nat_lt (low id.creator) id.index && nat_le id.index (high id.creator)))
 creators-names low high [] from id rising = refl
 creators-names low high (creator ∷ list) from id rising =
     names-both (names_above (low creator) (high creator) creator) (names_of_creators low high list) id ∙ ⊎_elim
     (λ (here : id.creator ≡ creator).
     let e : (creator == id.creator) ≡ true = eq-eqb creator id.creator (sym here) in
-    let none : names (names_of_creators low high list) id ≡ false = creators-names low high list (suc creator) id rising.1 ∙ ap (λ b. b && (nat_lt (low id.creator) id.index && nat_le id.index (high id.creator))) (early list (suc creator) id.creator rising.1 (omega arith)) in
+    let none : has_name (names_of_creators low high list) id ≡ false = creators-names low high list (suc creator) id rising.1 ∙ ap (λ b. b && (nat_lt (low id.creator) id.index && nat_le id.index (high id.creator))) (early list (suc creator) id.creator rising.1 (omega arith)) in
     ap₂ (λ a b. a || b) (names-above (low creator) (high creator) creator id here) none ∙ or-none (nat_lt (low creator) id.index && nat_le id.index (high creator))
     ∙ ap (λ x. nat_lt (low x) id.index && nat_le id.index (high x)) (sym here)
     ∙ sym (ap (λ b. (b || has list id.creator) && (nat_lt (low id.creator) id.index && nat_le id.index (high id.creator))) e))
     (λ (other : id.creator ≡ creator → ⊥).
-    ap (λ b. b || names (names_of_creators low high list) id) (numbered-other creator (suc (low creator)) (high creator - low creator) id other)
+    ap (λ b. b || has_name (names_of_creators low high list) id) (numbered-other creator (suc (low creator)) (high creator - low creator) id other)
     ∙ creators-names low high list (suc creator) id rising.1
     ∙ sym (ap (λ b. (b || has list id.creator) && (nat_lt (low id.creator) id.index && nat_le id.index (high id.creator))) (ne_eqb creator id.creator (λ e. other (sym e)))))
     (cases_eq id.creator creator)

@@ -4,7 +4,7 @@ use Rattle.std.proofs.Common.{◌≡◌, zero, suc, ◌≤◌, ◌<◌, max, Boo
 use Rattle.std.proofs.lemmas.Bool.{cases_lt, cases_Bool, cond-true, cond-false, false_from_ne_true, and_parts}
 use Rattle.cg_base.specs.declared.action_id.ActionId.{ActionId}
 use Rattle.cg_base.specs.Cuts.{index_in, raise}
-use Rattle.cg_base.specs.Ids.{same_id, names}
+use Rattle.cg_base.specs.Ids.{same_id, has_name}
 use Rattle.cg_base.specs.IdLaws.{same_id-is, same_id-back}
 use Rattle.cg_model.specs.Fronts.{Front}
 use Rattle.cg_disk_records.specs.Holds.{run_on, cut_behind, Rising}
@@ -23,12 +23,12 @@ times-here id x ids e = cond-true (same_id x id) (suc (times id ids)) (times id 
 times-not : (id x : ActionId) (ids : List ActionId) → same_id x id ≡ false → times id (x ∷ ids) ≡ times id ids
 times-not id x ids e = cond-false (same_id x id) (suc (times id ids)) (times id ids) e
 
-pub named-times : (id : ActionId) (ids : List ActionId) → names ids id ≡ true → 1 ≤ times id ids
+pub named-times : (id : ActionId) (ids : List ActionId) → has_name ids id ≡ true → 1 ≤ times id ids
 named-times id [] e = absurd (let clash : false ≡ true = e in cc)
 named-times id (x ∷ ids) e = elim (cases_Bool (same_id x id)) [
   | inl here ↦ (let now = times-here id x ids here in omega arith)
   | inr other ↦
-      let rest = named-times id ids (later (same_id id x) (names ids id) (λ y. (let clash : true ≡ false = sym (same_id-back id x y) ∙ other in cc)) e) in
+      let rest = named-times id ids (later (same_id id x) (has_name ids id) (λ y. (let clash : true ≡ false = sym (same_id-back id x y) ∙ other in cc)) e) in
       let now = times-not id x ids other in
       omega arith
 ] where
@@ -36,11 +36,11 @@ named-times id (x ∷ ids) e = elim (cases_Bool (same_id x id)) [
   later true b other e = absurd (other refl)
   later false b other e = e
 
-pub times-named : (id : ActionId) (ids : List ActionId) → 1 ≤ times id ids → names ids id ≡ true
+pub times-named : (id : ActionId) (ids : List ActionId) → 1 ≤ times id ids → has_name ids id ≡ true
 times-named id [] le = absurd (omega arith)
 times-named id (x ∷ ids) le = elim (cases_Bool (same_id x id)) [
-  | inl here ↦ ap (λ b. b || names ids id) (same_id-back x id here)
-  | inr other ↦ or-later (same_id id x) (names ids id) (times-named id ids (let now = times-not id x ids other in omega arith))
+  | inl here ↦ ap (λ b. b || has_name ids id) (same_id-back x id here)
+  | inr other ↦ or-later (same_id id x) (has_name ids id) (times-named id ids (let now = times-not id x ids other in omega arith))
 ] where
   or-later : (a b : Bool) → b ≡ true → (a || b) ≡ true
   or-later true b e = refl
@@ -113,34 +113,34 @@ contains-in (y ∷ xs) x (suc k, less, is) = inr (contains-in xs x (k, omega ari
 
 -- ---- places in the order
 
-front-named : (xs ys : List ActionId) (id : ActionId) → Front xs ys → names xs id ≡ true → names ys id ≡ true
+front-named : (xs ys : List ActionId) (id : ActionId) → Front xs ys → has_name xs id ≡ true → has_name ys id ≡ true
 front-named [] ys id front named = absurd (let clash : false ≡ true = named in cc)
 front-named (x ∷ xs) [] id front named = absurd front
 front-named (x ∷ xs) (y ∷ ys) id front named = at (same_id id x) (same_id id y) (ap (same_id id) front.0) (λ later. front-named xs ys id front.1 later) named where
-  at : (a b : Bool) → a ≡ b → (names xs id ≡ true → names ys id ≡ true) → (a || names xs id) ≡ true → (b || names ys id) ≡ true
+  at : (a b : Bool) → a ≡ b → (has_name xs id ≡ true → has_name ys id ≡ true) → (a || has_name xs id) ≡ true → (b || has_name ys id) ≡ true
   at true true e again named = refl
   at false false e again named = again named
   at true false e again named = absurd (let clash : true ≡ false = e in cc)
   at false true e again named = refl
 
 -- a front of names that run on has a name where the name's place is within it
-pub placed-within : (order before after list : List ActionId) (id : ActionId) → run_on [] order ≡ true → order ≡ before ++ id ∷ after → Front list order → names list id ≡ true → length before < length list
+pub placed-within : (order before after list : List ActionId) (id : ActionId) → run_on [] order ≡ true → order ≡ before ++ id ∷ after → Front list order → has_name list id ≡ true → length before < length list
 placed-within order before after list id run is front named = elim (cases_lt (length before) (length list)) [
   | inl less ↦ less
   | inr far ↦
       let runs : run_on [] (before ++ id ∷ after) ≡ true = ap (run_on []) (sym is) ∙ run in
       let parts = and_parts (run_on [] before) (run_on (cut_behind [] before) (id ∷ after)) (sym (run_on-append [] before (id ∷ after)) ∙ runs) in
       let early : Front list before = Front-of_both list before order front (subst (Front before) (sym is) (Front-append before (id ∷ after))) (omega arith) in
-      let none : names before id ≡ false = names-new [] before id tt parts.0 (run-head (cut_behind [] before) id after parts.1) in
-      let there : names before id ≡ true = front-named list before id early named in
+      let none : has_name before id ≡ false = names-new [] before id tt parts.0 (run-head (cut_behind [] before) id after parts.1) in
+      let there : has_name before id ≡ true = front-named list before id early named in
       absurd (let clash : true ≡ false = sym there ∙ none in cc)
 ]
 
-pub within-placed : (before after list : List ActionId) (id : ActionId) → Front list (before ++ id ∷ after) → length before < length list → names list id ≡ true
+pub within-placed : (before after list : List ActionId) (id : ActionId) → Front list (before ++ id ∷ after) → length before < length list → has_name list id ≡ true
 within-placed [] after [] id front less = absurd (omega arith)
-within-placed [] after (x ∷ list) id front less = ap (λ b. b || names list id) (subst (λ y. same_id id y ≡ true) (sym front.0) (same-self id))
+within-placed [] after (x ∷ list) id front less = ap (λ b. b || has_name list id) (subst (λ y. same_id id y ≡ true) (sym front.0) (same-self id))
 within-placed (y ∷ before) after [] id front less = absurd (omega arith)
-within-placed (y ∷ before) after (x ∷ list) id front less = or-later (same_id id x) (names list id) (within-placed before after list id front.1 (omega arith)) where
+within-placed (y ∷ before) after (x ∷ list) id front less = or-later (same_id id x) (has_name list id) (within-placed before after list id front.1 (omega arith)) where
   or-later : (a b : Bool) → b ≡ true → (a || b) ≡ true
   or-later true b e = refl
   or-later false b e = e

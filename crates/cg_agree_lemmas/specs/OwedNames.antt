@@ -5,7 +5,7 @@ use Rattle.std.specs.Prelude.{◌==◌}
 use Rattle.std.proofs.lemmas.Bool.{cases_eq, cases_lt, cond-true, cond-false, ne_eqb, lt-ltb, le-ltb, lt-leb, le-leb}
 use Rattle.cg_base.specs.declared.action_id.ActionId.{ActionId}
 use Rattle.cg_base.specs.Cuts.{index_in, raise}
-use Rattle.cg_base.specs.Ids.{same_id, names}
+use Rattle.cg_base.specs.Ids.{same_id, has_name}
 use Rattle.cg_base.specs.IdLaws.{same_id-true, same_id-false}
 use Rattle.cg_action.specs.declared.action.Action.{Action}
 use Rattle.cg_action.specs.declared.entry.DbEntry.{DbEntry}
@@ -41,7 +41,7 @@ own-append p from (suc n) k =
     ap (own_names p from) one ∙ ap (λ ids. own_name p (suc from) ∷ ids) (own-append p (suc from) n k ∙ ap (λ m. own_names p (suc from) n ++ own_names p m k) next)
 
 -- which own names these are
-pub own-named : (p from n i : ℕ) → names (own_names p from n) (own_name p i) ≡ (nat_lt from i && nat_le i (from + n))
+pub own-named : (p from n i : ℕ) → has_name (own_names p from n) (own_name p i) ≡ (nat_lt from i && nat_le i (from + n))
 own-named p from zero i = elim (cases_lt from i) [
   | inl above ↦ sym (ap₂ (λ x y. x && y) (lt-ltb from i above) (lt-leb i (from + 0) (omega arith)))
   | inr below ↦ sym (ap (λ x. x && nat_le i (from + 0)) (le-ltb from i (omega arith)))
@@ -51,10 +51,10 @@ own-named p from (suc n) i =
     let rest = own-named p (suc from) n i ∙ ap (λ m. nat_lt (suc from) i && nat_le i m) far in
     elim (cases_eq i (suc from)) [
       | inl here ↦
-          ap (λ b. b || names (own_names p (suc from) n) (own_name p i)) (same_id-true (own_name p i) (own_name p (suc from)) refl here)
+          ap (λ b. b || has_name (own_names p (suc from) n) (own_name p i)) (same_id-true (own_name p i) (own_name p (suc from)) refl here)
           ∙ sym (ap₂ (λ x y. x && y) (lt-ltb from i (omega arith)) (le-leb i (from + suc n) (omega arith)))
       | inr apart ↦
-          ap (λ b. b || names (own_names p (suc from) n) (own_name p i)) (same_id-false (own_name p i) (own_name p (suc from)) (inr apart))
+          ap (λ b. b || has_name (own_names p (suc from) n) (own_name p i)) (same_id-false (own_name p i) (own_name p (suc from)) (inr apart))
           ∙ rest ∙ ap (λ b. b && nat_le i (from + suc n)) (elim (cases_lt (suc from) i) [
             | inl above ↦ lt-ltb (suc from) i above ∙ sym (lt-ltb from i (omega arith))
             | inr below ↦ le-ltb (suc from) i (omega arith) ∙ sym (le-ltb from i (let other : i ≡ suc from → ⊥ = apart in at-most i from (omega arith) other))
@@ -65,10 +65,10 @@ own-named p from (suc n) i =
     at-most i from le apart = omega (arith, le, apart)
 
 -- the own names behind another replica's
-pub own-other : (p q from n i : ℕ) → (q ≡ p → ⊥) → names (own_names p from n) (own_name q i) ≡ false
+pub own-other : (p q from n i : ℕ) → (q ≡ p → ⊥) → has_name (own_names p from n) (own_name q i) ≡ false
 own-other p q from zero i apart = refl
 own-other p q from (suc n) i apart =
-    ap (λ b. b || names (own_names p (suc from) n) (own_name q i)) (same_id-false (own_name q i) (own_name p (suc from)) (inl apart)) ∙ own-other p q (suc from) n i apart
+    ap (λ b. b || has_name (own_names p (suc from) n) (own_name q i)) (same_id-false (own_name q i) (own_name p (suc from)) (inl apart)) ∙ own-other p q (suc from) n i apart
 
 -- ---- what is owed
 

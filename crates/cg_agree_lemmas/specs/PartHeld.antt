@@ -8,7 +8,7 @@ use Rattle.std.proofs.lemmas.List.{length-drop}
 use Rattle.cg_base.specs.declared.action_id.ActionId.{ActionId}
 use Rattle.cg_base.specs.declared.weighted.Weighted.{Weighted}
 use Rattle.cg_base.specs.Cuts.{index_in}
-use Rattle.cg_base.specs.Ids.{same_id, names}
+use Rattle.cg_base.specs.Ids.{same_id, has_name}
 use Rattle.cg_base.specs.Lists.{at_place, above_up_to, Each}
 use Rattle.cg_action.specs.declared.action.Action.{Action}
 use Rattle.cg_knowledge.specs.declared.summary.Summary.{Summary}
@@ -50,14 +50,14 @@ green-held start h all place made above within =
       mapped (Some x) a e = refl
 
 -- a name of a red action is found
-pub name-found : (xs ys : List Action) (id : ActionId) → names (names_of ys) id ≡ true → is_some (find (λ a. same_id a.id id) (xs ++ ys)) ≡ true
+pub name-found : (xs ys : List Action) (id : ActionId) → has_name (names_of ys) id ≡ true → is_some (find (λ a. same_id a.id id) (xs ++ ys)) ≡ true
 name-found [] [] id e = absurd (let clash : false ≡ true = e in cc)
 name-found [] (y ∷ ys) id e = ⊎_elim
     (λ (here : same_id id y.id ≡ true).
     let mine : same_id y.id id ≡ true = turned id y.id ∙ here in
     ap (λ o. is_some o) (cond-true (same_id y.id id) (Some y) (find (λ a. same_id a.id id) ys) mine))
     (λ there. one (same_id y.id id) (Some y) (find (λ a. same_id a.id id) ys) refl (name-found [] ys id there))
-    (or_cases (same_id id y.id) (names (names_of ys) id) e) where
+    (or_cases (same_id id y.id) (has_name (names_of ys) id) e) where
       turned : (m n : ActionId) → same_id n m ≡ same_id m n
       turned m n = ap₂ (λ a b. a && b) (eqb_comm n.creator m.creator) (eqb_comm n.index m.index)
 
@@ -74,7 +74,7 @@ red-held : (start : List Weighted) (h : Held) (all : List Action) (creator i : �
     is_some (message_of h.queue (red_item creator i)) ≡ true
 red-held start h all creator i is above within =
     let id : ActionId = record { creator = creator; index = i } in
-    let named : names (names_of h.queue.reds) id ≡ true = run-names h.queue.green_cut (names_of h.queue.reds) id (rising-green start h all is) is.contiguous.reds
+    let named : has_name (names_of h.queue.reds) id ≡ true = run-names h.queue.green_cut (names_of h.queue.reds) id (rising-green start h all is) is.contiguous.reds
     ∙ and_from (nat_lt (index_in h.queue.green_cut creator) i) (nat_le i (index_in (cut_behind h.queue.green_cut (names_of h.queue.reds)) creator)) (lt-ltb (index_in h.queue.green_cut creator) i above)
     (le-leb i (index_in (cut_behind h.queue.green_cut (names_of h.queue.reds)) creator) (subst (λ cut. i ≤ index_in cut creator) is.made_of.red_cut within)) in
     mapped (action_of h.queue id) (name-found h.queue.greens h.queue.reds id named) where

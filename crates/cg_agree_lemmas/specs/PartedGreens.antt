@@ -7,7 +7,7 @@ use Rattle.std.proofs.lemmas.List.Sums.{fold-append}
 use Rattle.cg_base.specs.declared.action_id.ActionId.{ActionId}
 use Rattle.cg_base.specs.declared.weighted.Weighted.{Weighted}
 use Rattle.cg_base.specs.Cuts.{index_in}
-use Rattle.cg_base.specs.Ids.{names}
+use Rattle.cg_base.specs.Ids.{has_name}
 use Rattle.cg_base.specs.Lists.{at_place}
 use Rattle.cg_base.specs.Sets.{with_member, is_within}
 use Rattle.cg_action.specs.declared.action.Action.{Action}
@@ -51,7 +51,7 @@ leaves-red q a =
 
 leaves-yellow : (greens : List Action) (id : ActionId) (m : Marking) → LeavesGreens greens m → LeavesGreens greens (and_yellow id m)
 leaves-yellow greens id (Marks mark q) is =
-    cond_both (nat_lt (index_in q.green_cut id.creator) id.index && not (names q.yellow id)) (record q { yellow = q.yellow ++ id ∷ [] }) q (λ (x : QueueView). x.greens ≡ greens) (λ y. is) (λ n. is)
+    cond_both (nat_lt (index_in q.green_cut id.creator) id.index && not (has_name q.yellow id)) (record q { yellow = q.yellow ++ id ∷ [] }) q (λ (x : QueueView). x.greens ≡ greens) (λ y. is) (λ n. is)
 leaves-yellow greens id (Gaps cut) is = tt
 
 red-greens : (t : Turn) (a : Action) → (mark_red t a).replica.held.queue.greens ≡ t.replica.held.queue.greens

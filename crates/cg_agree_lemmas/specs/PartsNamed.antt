@@ -7,7 +7,7 @@ use Rattle.std.proofs.lemmas.Bool.{cases_Bool, cases_lt, cond-true, cond-false, 
 use Rattle.cg_base.specs.declared.action_id.ActionId.{ActionId}
 use Rattle.cg_base.specs.declared.weighted.Weighted.{Weighted}
 use Rattle.cg_base.specs.Cuts.{index_in, creators_in}
-use Rattle.cg_base.specs.Ids.{names, same_id}
+use Rattle.cg_base.specs.Ids.{has_name, same_id}
 use Rattle.cg_base.specs.Sets.{union, with_member}
 use Rattle.cg_action.specs.declared.action.Action.{Action}
 use Rattle.cg_queue.specs.Queue.{QueueView, names_of, action_of}
@@ -33,10 +33,10 @@ use Rattle.cg_agree_lemmas.specs.YellowMeets.{reds-named}
 -- ---- yellow
 
 -- names of reds are those of the actions that they stand for
-pub actions-names : (q : QueueView) (ids : List ActionId) → list_all (names (names_of q.reds)) ids ≡ true → names_of (actions_named q ids) ≡ ids
+pub actions-names : (q : QueueView) (ids : List ActionId) → list_all (has_name (names_of q.reds)) ids ≡ true → names_of (actions_named q ids) ≡ ids
 actions-names q [] named = refl
 actions-names q (id ∷ ids) named =
-    let parts = and_parts (names (names_of q.reds) id) (list_all (names (names_of q.reds)) ids) named in
+    let parts = and_parts (has_name (names_of q.reds) id) (list_all (has_name (names_of q.reds)) ids) named in
     at (action_of q id) refl (name-found q.greens q.reds id parts.0) (actions-names q ids parts.1) where
       at : (o : Option Action) → action_of q id ≡ o → is_some o ≡ true → names_of (actions_named q ids) ≡ ids → names_of (option_to_list o ++ actions_named q ids) ≡ id ∷ ids
       at None e some rest = absurd (let clash : false ≡ true = some in cc)
@@ -50,7 +50,7 @@ none-invalid heard e = at (lowest (yellow_group heard)) e where
   at None e = refl
   at (Some low) e = absurd (let clash : true ≡ false = e in cc)
 
-yellow-names : (h : Held) (heard : List Summary) → yellow_of h ≡ common_yellow heard → list_all (names (names_of h.queue.reds)) h.queue.yellow ≡ true → names_of (valid_yellow h) ≡ (common_yellow heard).list
+yellow-names : (h : Held) (heard : List Summary) → yellow_of h ≡ common_yellow heard → list_all (has_name (names_of h.queue.reds)) h.queue.yellow ≡ true → names_of (valid_yellow h) ≡ (common_yellow heard).list
 yellow-names h heard same named = at h.yellow_valid refl where
   at : (b : Bool) → h.yellow_valid ≡ b → names_of (cond b (actions_named h.queue h.queue.yellow) []) ≡ (common_yellow heard).list
   at true valid = actions-names h.queue h.queue.yellow named ∙ ap (λ (y : Yellow). y.list) same
@@ -116,7 +116,7 @@ parts-named start h all heard best is cut red same most =
     let yellow : h.queue.yellow ≡ (common_yellow heard).list = ap (λ (y : Yellow). y.list) same in
     record {
       yellow = yellow-names h heard same named;
-      reds = names-filter (λ id. not (names h.queue.yellow id)) h.queue.reds
-          ∙ ap₂ (λ ys ids. filter (λ id. not (names ys id)) ids) yellow (known-names start h all heard best is cut red)
-          ∙ sym (ap (λ o. option_map_or (λ b. filter (λ id. not (names (common_yellow heard).list id)) (flat_map (names_between heard b) (creators heard))) o []) most);
+      reds = names-filter (λ id. not (has_name h.queue.yellow id)) h.queue.reds
+          ∙ ap₂ (λ ys ids. filter (λ id. not (has_name ys id)) ids) yellow (known-names start h all heard best is cut red)
+          ∙ sym (ap (λ o. option_map_or (λ b. filter (λ id. not (has_name (common_yellow heard).list id)) (flat_map (names_between heard b) (creators heard))) o []) most);
     }

@@ -6,7 +6,7 @@ use Rattle.std.proofs.lemmas.Bool.{cases_order, cases_Bool, and_parts}
 use Rattle.cg_base.specs.Lists.{Each}
 use Rattle.cg_group.specs.EachLaws.{Each-append}
 use Rattle.cg_base.specs.declared.action_id.ActionId.{ActionId}
-use Rattle.cg_base.specs.Ids.{same_id, names}
+use Rattle.cg_base.specs.Ids.{same_id, has_name}
 use Rattle.cg_base.specs.Cuts.{index_in}
 use Rattle.cg_base.specs.Sets.{has, is_within, with_member}
 use Rattle.cg_action.specs.declared.action.Action.{Action}
@@ -84,10 +84,10 @@ each-named Fine q (id ∷ ids) fine =
 
 -- the yellow list with a name more, where it is none
 abbrev yellow_with : QueueView → ActionId → List ActionId
-yellow_with q id = if nat_lt (index_in q.green_cut id.creator) id.index && not (names q.yellow id) then q.yellow ++ id ∷ [] else q.yellow
+yellow_with q id = if nat_lt (index_in q.green_cut id.creator) id.index && not (has_name q.yellow id) then q.yellow ++ id ∷ [] else q.yellow
 
 with_yellow-is : (q : QueueView) (id : ActionId) → with_yellow q id ≡ record q { yellow = yellow_with q id }
-with_yellow-is q id = at (nat_lt (index_in q.green_cut id.creator) id.index && not (names q.yellow id)) where
+with_yellow-is q id = at (nat_lt (index_in q.green_cut id.creator) id.index && not (has_name q.yellow id)) where
   at : (b : Bool) → cond b (record q { yellow = q.yellow ++ id ∷ [] }) q ≡ record q { yellow = cond b (q.yellow ++ id ∷ []) q.yellow }
   at true = refl
   at false = refl

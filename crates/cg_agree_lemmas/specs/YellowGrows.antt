@@ -6,7 +6,7 @@ use Rattle.std.proofs.lemmas.Bool.{cond_both}
 use Rattle.std.proofs.lemmas.List.Sums.{fold-append}
 use Rattle.cg_base.specs.declared.action_id.ActionId.{ActionId}
 use Rattle.cg_base.specs.Cuts.{index_in}
-use Rattle.cg_base.specs.Ids.{names}
+use Rattle.cg_base.specs.Ids.{has_name}
 use Rattle.cg_base.specs.Lists.{at_place}
 use Rattle.cg_action.specs.declared.action.Action.{Action}
 use Rattle.cg_queue.specs.Queue.{QueueView, Marking, Marks, Gaps, marked_red, marked_yellow, and_yellow, placed_red}
@@ -37,7 +37,7 @@ red-keeps q a =
 
 yellow-keeps : (ys : List ActionId) (id : ActionId) (m : Marking) → KeepsYellow ys m → KeepsYellow ys (and_yellow id m)
 yellow-keeps ys id (Marks mark q) is =
-    cond_both (nat_lt (index_in q.green_cut id.creator) id.index && not (names q.yellow id)) (record q { yellow = q.yellow ++ id ∷ [] }) q (λ (x : QueueView). Front ys x.yellow)
+    cond_both (nat_lt (index_in q.green_cut id.creator) id.index && not (has_name q.yellow id)) (record q { yellow = q.yellow ++ id ∷ [] }) q (λ (x : QueueView). Front ys x.yellow)
     (λ y. Front-trans ys q.yellow (q.yellow ++ id ∷ []) is (Front-append q.yellow (id ∷ []))) (λ n. is)
 yellow-keeps ys id (Gaps cut) is = tt
 

@@ -7,7 +7,7 @@ use Rattle.std.proofs.lemmas.Bool.{cases_eq, cases_lt, cases_Bool, cond-true, co
 use Rattle.std.proofs.lemmas.List.{append_assoc}
 use Rattle.cg_base.specs.declared.action_id.ActionId.{ActionId}
 use Rattle.cg_base.specs.Cuts.{index_in, raise}
-use Rattle.cg_base.specs.Ids.{names}
+use Rattle.cg_base.specs.Ids.{has_name}
 use Rattle.cg_queue.specs.Queue.{QueueView, names_of}
 use Rattle.cg_knowledge.specs.declared.summary.Summary.{Summary}
 use Rattle.cg_knowledge.specs.Summaries.{lowest, most_updated}
@@ -129,23 +129,23 @@ unfolding yellow_group newest
 each-group P heard each = each-filter P (λ s. s.yellow.valid) (filter (knows_prim (newest_index heard)) heard) (each-filter P (knows_prim (newest_index heard)) heard each)
 
 -- a name of a list is above its greens, and no farther than the list goes
-named-within : (best : List ActionId) (s : Summary) (id : ActionId) → FitsBest best s → names s.yellow.list id ≡ true → id.index ≤ yellow_to s id.creator
+named-within : (best : List ActionId) (s : Summary) (id : ActionId) → FitsBest best s → has_name s.yellow.list id ≡ true → id.index ≤ yellow_to s id.creator
 named-within best s id fits e =
     let both = and_parts (nat_lt (index_in s.green_cut id.creator) id.index) (nat_le id.index (yellow_to s id.creator)) (sym (run-names s.green_cut s.yellow.list id fits.rising fits.next) ∙ e) in
     leb-true id.index (yellow_to s id.creator) both.1
 
-named-there : (best : List ActionId) (s : Summary) (id : ActionId) → FitsBest best s → index_in best id.creator < id.index → id.index ≤ yellow_to s id.creator → names s.yellow.list id ≡ true
+named-there : (best : List ActionId) (s : Summary) (id : ActionId) → FitsBest best s → index_in best id.creator < id.index → id.index ≤ yellow_to s id.creator → has_name s.yellow.list id ≡ true
 named-there best s id fits above within =
     let low = fits.below id.creator in
     run-names s.green_cut s.yellow.list id fits.rising fits.next
     ∙ and_from (nat_lt (index_in s.green_cut id.creator) id.index) (nat_le id.index (yellow_to s id.creator)) (lt-ltb (index_in s.green_cut id.creator) id.index (omega arith)) (le-leb id.index (yellow_to s id.creator) within)
 
-group-within : (best : List ActionId) (id : ActionId) (group : List Summary) → OfEach (FitsBest best) group → OfEach (λ s. names s.yellow.list id ≡ true) group → OfEach (λ s. id.index ≤ yellow_to s id.creator) group
+group-within : (best : List ActionId) (id : ActionId) (group : List Summary) → OfEach (FitsBest best) group → OfEach (λ s. has_name s.yellow.list id ≡ true) group → OfEach (λ s. id.index ≤ yellow_to s id.creator) group
 group-within best id [] fits each = tt
 group-within best id (s ∷ group) fits each = (named-within best s id fits.0 each.0, group-within best id group fits.1 each.1)
 
 group-there : (best : List ActionId) (id : ActionId) (n : ℕ) (group : List Summary) → OfEach (FitsBest best) group → index_in best id.creator < id.index → id.index ≤ n → OfEach (λ s. n ≤ yellow_to s id.creator) group →
-    OfEach (λ s. names s.yellow.list id ≡ true) group
+    OfEach (λ s. has_name s.yellow.list id ≡ true) group
 group-there best id n [] fits above le each = tt
 group-there best id n (s ∷ group) fits above le each = (named-there best s id fits.0 above (let a = each.0 in omega arith), group-there best id n group fits.1 above le each.1)
 
@@ -171,7 +171,7 @@ module _ (heard : List Summary) (best low : Summary) (most : most_updated heard 
   common-yes id e =
       let parts = and_parts (is_in_each (yellow_group heard) id) (not (is_green_at_most heard id)) e in
       let above = leb-false id.index (base id.creator) (sym (at-most heard best most id) ∙ not-true (is_green_at_most heard id) parts.1) in
-      let named = each-of_all (λ s. names s.yellow.list id) (yellow_group heard) parts.0 in
+      let named = each-of_all (λ s. has_name s.yellow.list id) (yellow_group heard) parts.0 in
       let each = group-within best.green_cut id (yellow_group heard) fits named in
       let own = lowest-of (λ s. id.index ≤ yellow_to s id.creator) (yellow_group heard) low least each in
       (above, least-within (yellow_group heard) (yellow_to low id.creator) id.index id.creator own each)
@@ -181,7 +181,7 @@ module _ (heard : List Summary) (best low : Summary) (most : most_updated heard 
   common-so id above within =
       let below = least-below (yellow_group heard) (yellow_to low id.creator) id.creator in
       and_from (is_in_each (yellow_group heard) id) (not (is_green_at_most heard id))
-      (all-of_each (λ s. names s.yellow.list id) (yellow_group heard) (group-there best.green_cut id (bound id.creator) (yellow_group heard) fits above within below.1))
+      (all-of_each (λ s. has_name s.yellow.list id) (yellow_group heard) (group-there best.green_cut id (bound id.creator) (yellow_group heard) fits above within below.1))
       (ap not (at-most heard best most id ∙ lt-not id.index (base id.creator) above)) where
         lt-not : (n m : ℕ) → m < n → nat_le n m ≡ false
         lt-not n m lt = ⊎_elim (λ y. absurd (let le = leb-true n m y in omega arith)) (λ f. f) (cases_Bool (nat_le n m))
@@ -215,31 +215,31 @@ common-known heard red each = at (lowest (yellow_group heard)) refl where
 -- ---- names that are taken over whole
 
 -- names that run on behind the green cut and are known are those of reds
-pub reds-named : (green reds ids : List ActionId) → Rising 0 green → run_on green reds ≡ true → run_on green ids ≡ true → are_within (cut_behind green reds) ids ≡ true → list_all (names reds) ids ≡ true
+pub reds-named : (green reds ids : List ActionId) → Rising 0 green → run_on green reds ≡ true → run_on green ids ≡ true → are_within (cut_behind green reds) ids ≡ true → list_all (has_name reds) ids ≡ true
 reds-named green reds ids rising run on within = each ids (run-above ids green green on (λ p. (let le : index_in green p ≤ index_in green p = omega arith in le))) within where
-  each : (ids : List ActionId) → list_all (λ id. not (nat_le id.index (index_in green id.creator))) ids ≡ true → are_within (cut_behind green reds) ids ≡ true → list_all (names reds) ids ≡ true
+  each : (ids : List ActionId) → list_all (λ id. not (nat_le id.index (index_in green id.creator))) ids ≡ true → are_within (cut_behind green reds) ids ≡ true → list_all (has_name reds) ids ≡ true
   each [] above within = refl
   each (id ∷ ids) above within =
       let a = and_parts (not (nat_le id.index (index_in green id.creator))) (list_all (λ id. not (nat_le id.index (index_in green id.creator))) ids) above in
       let b = and_parts (nat_le id.index (index_in (cut_behind green reds) id.creator)) (are_within (cut_behind green reds) ids) within in
       let lt = leb-false id.index (index_in green id.creator) (not-true (nat_le id.index (index_in green id.creator)) a.0) in
-      and_from (names reds id) (list_all (names reds) ids)
+      and_from (has_name reds id) (list_all (has_name reds) ids)
       (run-names green reds id rising run
       ∙ and_from (nat_lt (index_in green id.creator) id.index) (nat_le id.index (index_in (cut_behind green reds) id.creator)) (lt-ltb (index_in green id.creator) id.index lt) b.0) (each ids a.1 b.1)
 
-taken-names : (q : QueueView) (cut ids list : List ActionId) → Rising 0 cut → list_all (names (names_of q.reds)) ids ≡ true → run_on cut (list ++ ids) ≡ true → fold (with_name q) list ids ≡ list ++ ids
+taken-names : (q : QueueView) (cut ids list : List ActionId) → Rising 0 cut → list_all (has_name (names_of q.reds)) ids ≡ true → run_on cut (list ++ ids) ≡ true → fold (with_name q) list ids ≡ list ++ ids
 taken-names q cut [] list rising named run = sym (append-nil list)
 taken-names q cut (id ∷ ids) list rising named run =
-    let parts = and_parts (names (names_of q.reds) id) (list_all (names (names_of q.reds)) ids) named in
+    let parts = and_parts (has_name (names_of q.reds) id) (list_all (has_name (names_of q.reds)) ids) named in
     let both = and_parts (run_on cut list) (run_on (cut_behind cut list) (id ∷ ids)) (sym (run_on-append cut list (id ∷ ids)) ∙ run) in
     let new = names-new cut list id rising both.0 (run-head (cut_behind cut list) id ids both.1) in
     let one : with_name q list id ≡ list ++ id ∷ [] =
-    cond-true (names (names_of q.reds) id && not (names list id)) (list ++ id ∷ []) list (and_from (names (names_of q.reds) id) (not (names list id)) parts.0 (ap not new)) in
+    cond-true (has_name (names_of q.reds) id && not (has_name list id)) (list ++ id ∷ []) list (and_from (has_name (names_of q.reds) id) (not (has_name list id)) parts.0 (ap not new)) in
     ap (λ xs. fold (with_name q) xs ids) one
     ∙ taken-names q cut ids (list ++ id ∷ []) rising parts.1 (ap (run_on cut) (append_assoc list (id ∷ []) ids) ∙ run)
     ∙ append_assoc list (id ∷ []) ids
 
 -- Names of reds that run on are all usable.
-pub usable-all : (q : QueueView) (cut ids : List ActionId) → Rising 0 cut → list_all (names (names_of q.reds)) ids ≡ true → run_on cut ids ≡ true → usable_names q ids ≡ ids
+pub usable-all : (q : QueueView) (cut ids : List ActionId) → Rising 0 cut → list_all (has_name (names_of q.reds)) ids ≡ true → run_on cut ids ≡ true → usable_names q ids ≡ ids
 unfolding usable_names
 usable-all q cut ids rising named run = taken-names q cut ids [] rising named run

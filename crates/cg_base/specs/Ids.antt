@@ -12,5 +12,5 @@ abbrev pub id_before : ActionId → ActionId → Bool
 id_before a b = nat_lt a.creator b.creator || ((a.creator == b.creator) && nat_lt a.index b.index)
 
 -- the name stands in the list
-abbrev pub names : List ActionId → ActionId → Bool
-names list id = list_any (same_id id) list
+abbrev pub has_name : List ActionId → ActionId → Bool
+has_name list id = list_any (same_id id) list

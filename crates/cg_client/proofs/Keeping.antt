@@ -3,7 +3,7 @@ use Rattle.std.specs.Prelude.{◌≡◌, ◌≤◌, ◌<◌, ◌^◌, ℕ, zero,
 use Rattle.std.proofs.Common.{subst, sym, inl, inr, arith}
 use Rattle.std.proofs.lemmas.Bool.{cases_Bool, or_cases, and_parts, eqb-true}
 use Rattle.cg_base.specs.declared.action_id.ActionId.{ActionId}
-use Rattle.cg_base.specs.Ids.{same_id, id_before, names}
+use Rattle.cg_base.specs.Ids.{same_id, id_before, has_name}
 use Rattle.cg_base.specs.Lists.{at_place, Each}
 use Rattle.cg_base.specs.Cuts.{index_in, with_top, raise}
 use Rattle.cg_action.specs.declared.action.Action.{Action}
@@ -60,9 +60,9 @@ raise-indexed cut id is all = indexed_if (id.index == 0) _ _ all (with_top-index
 
 -- ---- names
 
-named : (reds : List Action) (id : ActionId) → Each IsAction reds → names (names_of reds) id ≡ true → IsName id
+named : (reds : List Action) (id : ActionId) → Each IsAction reds → has_name (names_of reds) id ≡ true → IsName id
 named [] id all stands = absurd (cc)
-named (a ∷ reds) id all stands = elim (or_cases (same_id id a.id) (names (names_of reds) id) stands) [
+named (a ∷ reds) id all stands = elim (or_cases (same_id id a.id) (has_name (names_of reds) id) stands) [
   | inl here ↦
       let parts = and_parts (id.creator == a.id.creator) (id.index == a.id.index) here in
       let creator : id.creator ≡ a.id.creator = eqb-true id.creator a.id.creator parts.0 in
@@ -112,7 +112,7 @@ red_keeps q a kept here =
     (keeps_if (a.id.index == suc (index_in q.red_cut a.id.creator)) _ _ (placed_red-kept q a kept here) tt)
 
 named_keeps : (q : QueueView) (id : ActionId) → AreKept q → IsActionId id → AreKept (with_yellow q id)
-named_keeps q id kept here = elim (cases_Bool (nat_lt (index_in q.green_cut id.creator) id.index && not (names q.yellow id))) [
+named_keeps q id kept here = elim (cases_Bool (nat_lt (index_in q.green_cut id.creator) id.index && not (has_name q.yellow id))) [
   | inl new ↦
       rw new (record {
         greens = kept.greens;

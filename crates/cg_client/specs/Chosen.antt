@@ -2,7 +2,7 @@
 use Rattle.std.specs.Prelude.{nat_lt, not, List, [], ◌∷◌, filter, flat_map, if◌then◌else◌}
 use Rattle.std.specs.Option.{option_to_list}
 use Rattle.cg_base.specs.declared.action_id.ActionId.{ActionId}
-use Rattle.cg_base.specs.Ids.{names}
+use Rattle.cg_base.specs.Ids.{has_name}
 use Rattle.cg_base.specs.Cuts.{index_in}
 use Rattle.cg_action.specs.declared.action.Action.{Action}
 use Rattle.cg_queue.specs.Queue.{QueueView, action_of}
@@ -13,7 +13,7 @@ actions_named q ids = flat_map (λ id. option_to_list (action_of q id)) ids
 
 -- the reds that aren't yellow, by name
 abbrev pub plain_reds : QueueView → List Action
-plain_reds q = filter (λ a. not (names q.yellow a.id)) q.reds
+plain_reds q = filter (λ a. not (has_name q.yellow a.id)) q.reds
 
 -- the action, where it wasn't known
 abbrev pub unknown_in : QueueView → Action → List Action

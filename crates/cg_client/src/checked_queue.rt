@@ -3,7 +3,7 @@ ghost use Rattle.std.specs.Prelude.{◌≡◌, ◌≤◌, ◌<◌, ◌-◌, suc,
 ghost use Rattle.std.specs.Option.{option_copied};
 ghost use Rattle.cg_base.specs.declared.limits.TheConstants.{COUNT_LIMIT};
 ghost use Rattle.cg_base.specs.Cuts.{index_in};
-ghost use Rattle.cg_base.specs.Ids.{names};
+ghost use Rattle.cg_base.specs.Ids.{has_name};
 ghost use Rattle.cg_base.specs.Lists.{at_place, Each};
 ghost use Rattle.cg_action.specs.ActionLimits.{IsAction};
 ghost use Rattle.cg_records.specs.Limits.{IsIndex, IsName, IsSmallCut};
@@ -135,7 +135,7 @@ impl CheckedQueue {
 
     /// The names of the reds that aren't yellow, in their order.
     pub fn plain_red_names(&self) -> Result<IdRuns, NoMemory>
-        ensures { IfOk result (λ ids. ids ≡ filter (λ id. not (names self.now.yellow id)) (names_of self.now.reds)) }
+        ensures { IfOk result (λ ids. ids ≡ filter (λ id. not (has_name self.now.yellow id)) (names_of self.now.reds)) }
     {
         self.queue.plain_red_names()
     }
@@ -171,14 +171,14 @@ impl CheckedQueue {
 
     /// The name is yellow.
     pub fn is_yellow(&self, id: ActionId) -> bool
-        ensures { result ≡ names self.now.yellow id }
+        ensures { result ≡ has_name self.now.yellow id }
     {
         self.queue.is_yellow(id)
     }
 
     /// The name is one of a red action.
     pub fn is_red(&self, id: ActionId) -> bool
-        ensures { result ≡ names (names_of self.now.reds) id }
+        ensures { result ≡ has_name (names_of self.now.reds) id }
     {
         self.queue.is_red(id)
     }

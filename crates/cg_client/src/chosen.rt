@@ -1,7 +1,7 @@
 //! Lists of actions and of names, from the actions that are known.
 ghost use Rattle.std.specs.Prelude.{◌≡◌, ◌++◌, ◌∷◌, [], filter, not, OnOk, IfOk};
 ghost use Rattle.std.specs.Option.{option_to_list};
-ghost use Rattle.cg_base.specs.Ids.{names};
+ghost use Rattle.cg_base.specs.Ids.{has_name};
 ghost use Rattle.cg_action.specs.ActionLimits.{IsAction};
 ghost use Rattle.cg_queue.specs.Queue.{action_of, names_of};
 ghost use Rattle.cg_client.specs.Chosen.{actions_named, plain_reds};
@@ -55,7 +55,7 @@ pub fn add_plain_reds(queue: &CheckedQueue, list: &mut Actions) -> Result<(), No
 
 fn push_plain(queue: &CheckedQueue, a: Action, list: &mut Actions) -> Result<(), NoMemory>
     requires { IsAction a }
-    ensures { OnOk result (list.new ≡ list.old ++ filter (λ a. not (names queue.now.yellow a.id)) (a ∷ [])) }
+    ensures { OnOk result (list.new ≡ list.old ++ filter (λ a. not (has_name queue.now.yellow a.id)) (a ∷ [])) }
 {
     if queue.is_yellow(name_of(&a)) {
         return Ok(());

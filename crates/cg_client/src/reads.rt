@@ -3,7 +3,7 @@ ghost use Rattle.std.specs.Prelude.{◌≡◌, ◌≤◌, ◌-◌, length, slice
 ghost use Rattle.std.specs.Option.{option_copied};
 ghost use Rattle.cg_base.specs.declared.limits.TheConstants.{COUNT_LIMIT};
 ghost use Rattle.cg_base.specs.Cuts.{index_in};
-ghost use Rattle.cg_base.specs.Ids.{names};
+ghost use Rattle.cg_base.specs.Ids.{has_name};
 ghost use Rattle.cg_base.specs.Lists.{at_place, Each};
 ghost use Rattle.cg_action.specs.ActionLimits.{IsAction};
 ghost use Rattle.cg_db.specs.Limits.{AreEntries};
@@ -73,7 +73,7 @@ impl Core {
 
     /// The name is one of a red action.
     pub fn is_red(&self, id: ActionId) -> bool
-        ensures { result ≡ names (names_of self.now.queue.reds) id }
+        ensures { result ≡ has_name (names_of self.now.queue.reds) id }
     {
         self.held.queue.is_red(id)
     }

@@ -9,7 +9,7 @@ use Rattle.std.proofs.Math.Seq.{drop-cons}
 use Rattle.std.proofs.lemmas.List.{drop_all}
 use Rattle.std.proofs.lemmas.Bool.{eqb-true, eqb-false, ltb-true, and_parts, and_from}
 use Rattle.cg_base.specs.declared.action_id.ActionId.{ActionId}
-use Rattle.cg_base.specs.Ids.{same_id, names}
+use Rattle.cg_base.specs.Ids.{same_id, has_name}
 use Rattle.cg_base.specs.Cuts.{index_in, raise, with_top}
 use Rattle.cg_base.specs.Lists.{count_up, above_up_to, Each}
 use Rattle.cg_base.specs.Sets.{IsId}
@@ -31,8 +31,8 @@ use Rattle.cg_disk_records.specs.Agreeing.{indexes_of, counts_up, is_by_name, is
 -- ---- red names
 
 -- a name among actions is an index among its creator's
-named-at : (a : Action) (rest : List Action) (id : ActionId) (same : Bool) → eqb a.id.creator id.creator ≡ same → names (names_of rest) id ≡ list_any (λ n. eqb n id.index) (indexes_of rest id.creator)
-    → (same_id id a.id || names (names_of rest) id) ≡ list_any (λ n. eqb n id.index) (map (λ (b : Action). b.id.index) (cond same (a ∷ filter (λ b. eqb b.id.creator id.creator) rest) (filter (λ b. eqb b.id.creator id.creator) rest)))
+named-at : (a : Action) (rest : List Action) (id : ActionId) (same : Bool) → eqb a.id.creator id.creator ≡ same → has_name (names_of rest) id ≡ list_any (λ n. eqb n id.index) (indexes_of rest id.creator)
+    → (same_id id a.id || has_name (names_of rest) id) ≡ list_any (λ n. eqb n id.index) (map (λ (b : Action). b.id.index) (cond same (a ∷ filter (λ b. eqb b.id.creator id.creator) rest) (filter (λ b. eqb b.id.creator id.creator) rest)))
 named-at a rest id true e so_far =
     let is : a.id.creator ≡ id.creator = eqb-true _ _ e in
     let same : eqb id.creator a.id.creator ≡ true = grind (arith, is) in
@@ -43,7 +43,7 @@ named-at a rest id false e so_far =
     let other : eqb id.creator a.id.creator ≡ false = grind (arith, apart) in
     rw (other, so_far) refl
 
-named : (actions : List Action) (id : ActionId) → names (names_of actions) id ≡ list_any (λ n. eqb n id.index) (indexes_of actions id.creator)
+named : (actions : List Action) (id : ActionId) → has_name (names_of actions) id ≡ list_any (λ n. eqb n id.index) (indexes_of actions id.creator)
 named [] id = refl
 named (a ∷ rest) id = named-at a rest id (eqb a.id.creator id.creator) refl (named rest id)
 
@@ -63,13 +63,13 @@ reds-counted p all c is =
     same_text _ _ (sym parts.1)
 
 -- so a name is red where it is between the cuts
-red-between : (p : Checkpoint) → list_all (counts_up (queue_in p)) every_replica ≡ true → (id : ActionId) → IsId id.creator → names (names_of p.kept.reds) id ≡ is_between_cuts p id
+red-between : (p : Checkpoint) → list_all (counts_up (queue_in p)) every_replica ≡ true → (id : ActionId) → IsId id.creator → has_name (names_of p.kept.reds) id ≡ is_between_cuts p id
 red-between p all id is =
     named p.kept.reds id
     ∙ ap (λ (ns : List ℕ). list_any (λ n. eqb n id.index) ns) (reds-counted p all id.creator is)
     ∙ above (index_in p.reached.cut id.creator) (index_in (red_cut_of p) id.creator) id.index
 
-reds-between : (p : Checkpoint) → list_all (counts_up (queue_in p)) every_replica ≡ true → (ids : List ActionId) → Each IsName ids → list_all (names (names_of p.kept.reds)) ids ≡ list_all (is_between_cuts p) ids
+reds-between : (p : Checkpoint) → list_all (counts_up (queue_in p)) every_replica ≡ true → (ids : List ActionId) → Each IsName ids → list_all (has_name (names_of p.kept.reds)) ids ≡ list_all (is_between_cuts p) ids
 reds-between p all [] each = refl
 reds-between p all (id ∷ ids) each = rw (red-between p all id each.0.0, reds-between p all ids each.1) refl
 

@@ -2,7 +2,7 @@
 use Rattle.std.specs.Prelude.{◌≡◌, suc, ◌==◌, Bool, not, ◌&&◌, ◌||◌, List, [], ◌∷◌, ◌++◌, Option, Some, None, fold, option_and_then, if◌then◌else◌}
 use Rattle.std.specs.List.{list_all}
 use Rattle.cg_base.specs.declared.action_id.ActionId.{ActionId}
-use Rattle.cg_base.specs.Ids.{names}
+use Rattle.cg_base.specs.Ids.{has_name}
 use Rattle.cg_base.specs.Cuts.{index_in}
 use Rattle.cg_action.specs.declared.action.Action.{Action}
 use Rattle.cg_queue.specs.Distinct.{is_distinct}
@@ -49,7 +49,7 @@ all_of go s items = fold (λ now item. option_and_then (λ x. go x item) now) s 
 
 -- the yellow names are those of red actions, each once
 abbrev pub are_yellow : QueueView → List ActionId → Bool
-are_yellow q ids = is_distinct ids && list_all (names (names_of q.reds)) ids
+are_yellow q ids = is_distinct ids && list_all (has_name (names_of q.reds)) ids
 
 -- the new values stand on the disk
 abbrev pub put_values : Stored → Stable → Stored

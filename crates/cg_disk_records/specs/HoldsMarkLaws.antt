@@ -4,7 +4,7 @@ use Rattle.std.specs.Prelude.{◌==◌}
 use Rattle.std.specs.List.{list_all}
 use Rattle.std.proofs.lemmas.Bool.{cases_eq, cases_order, cases_Bool, eq-eqb, ne_eqb, lt-ltb, le-ltb, and_parts, and_from}
 use Rattle.cg_base.specs.declared.action_id.ActionId.{ActionId}
-use Rattle.cg_base.specs.Ids.{same_id, id_before, names}
+use Rattle.cg_base.specs.Ids.{same_id, id_before, has_name}
 use Rattle.cg_base.specs.Cuts.{index_in, with_top, raise}
 use Rattle.cg_action.specs.declared.action.Action.{Action}
 use Rattle.cg_members.specs.Laws.{AreApart}
@@ -34,50 +34,50 @@ or-second true b e = refl
 or-second false b e = e
 
 -- a name that stands in the list stands there with one more among them
-names-inserted : (ids : List ActionId) (id y : ActionId) → names ids y ≡ true → names (inserted ids id) y ≡ true
+names-inserted : (ids : List ActionId) (id y : ActionId) → has_name ids y ≡ true → has_name (inserted ids id) y ≡ true
 names-inserted [] id y there = absurd (let clash : false ≡ true = there in cc)
 names-inserted (x ∷ ids) id y there = elim (cases_Bool (id_before id x)) [
-  | inl before ↦ rw before (or-second (same_id y id) (names (x ∷ ids) y) there)
+  | inl before ↦ rw before (or-second (same_id y id) (has_name (x ∷ ids) y) there)
   | inr later ↦ rw later (elim (cases_Bool (same_id y x)) [
     | inl here ↦ rw here refl
-    | inr apart ↦ or-second (same_id y x) (names (inserted ids id) y) (names-inserted ids id y (rw apart at there))
+    | inr apart ↦ or-second (same_id y x) (has_name (inserted ids id) y) (names-inserted ids id y (rw apart at there))
   ])
 ]
 
 -- and without another one
-names-left : (ids : List ActionId) (id y : ActionId) → same_id y id ≡ false → names ids y ≡ true →
-    names (without id ids) y ≡ true
+names-left : (ids : List ActionId) (id y : ActionId) → same_id y id ≡ false → has_name ids y ≡ true →
+    has_name (without id ids) y ≡ true
 names-left [] id y other there = there
 names-left (x ∷ ids) id y other there = elim (cases_Bool (same_id x id)) [
   | inl taken ↦
       rw taken (names-left ids id y other (rw (ap (λ z. same_id y z) (same_id-is x id taken) ∙ other) at there))
   | inr stays ↦ rw stays (elim (cases_Bool (same_id y x)) [
     | inl here ↦ rw here refl
-    | inr apart ↦ or-second (same_id y x) (names (without id ids) y) (names-left ids id y other (rw apart at there))
+    | inr apart ↦ or-second (same_id y x) (has_name (without id ids) y) (names-left ids id y other (rw apart at there))
   ])
 ]
 
 -- ---- yellow names
 
 abbrev pub are_red : List ActionId → List ActionId → Bool
-are_red reds ids = list_all (names reds) ids
+are_red reds ids = list_all (has_name reds) ids
 
 red-inserted : (reds : List ActionId) (id : ActionId) (ids : List ActionId) → are_red reds ids ≡ true →
     are_red (inserted reds id) ids ≡ true
 red-inserted reds id [] red = refl
 red-inserted reds id (y ∷ ids) red =
-    let parts = and_parts (names reds y) (are_red reds ids) red in
-    and_from (names (inserted reds id) y) (are_red (inserted reds id) ids) (names-inserted reds id y parts.0)
+    let parts = and_parts (has_name reds y) (are_red reds ids) red in
+    and_from (has_name (inserted reds id) y) (are_red (inserted reds id) ids) (names-inserted reds id y parts.0)
     (red-inserted reds id ids parts.1)
 
 red-left : (reds : List ActionId) (id : ActionId) (ids : List ActionId) → are_red reds ids ≡ true →
     are_red (without id reds) (without id ids) ≡ true
 red-left reds id [] red = refl
 red-left reds id (y ∷ ids) red =
-    let parts = and_parts (names reds y) (are_red reds ids) red in
+    let parts = and_parts (has_name reds y) (are_red reds ids) red in
     elim (cases_Bool (same_id y id)) [
       | inl taken ↦ rw taken (red-left reds id ids parts.1)
-      | inr stays ↦ rw stays (and_from (names (without id reds) y) (are_red (without id reds) (without id ids))
+      | inr stays ↦ rw stays (and_from (has_name (without id reds) y) (are_red (without id reds) (without id ids))
           (names-left reds id y stays parts.0) (red-left reds id ids parts.1))
     ]
 

@@ -6,7 +6,7 @@ use Rattle.std.specs.List.{list_all}
 use Rattle.std.proofs.lemmas.Bool.{cases_Bool, eq-eqb, le-leb, and_parts, and_from}
 use Rattle.cg_base.specs.declared.action_id.ActionId.{ActionId}
 use Rattle.cg_base.specs.declared.weighted.Weighted.{Weighted}
-use Rattle.cg_base.specs.Ids.{names}
+use Rattle.cg_base.specs.Ids.{has_name}
 use Rattle.cg_base.specs.Cuts.{index_in}
 use Rattle.cg_action.specs.declared.action.Action.{Action}
 use Rattle.cg_action.specs.declared.action.Kind.{Kind}
@@ -68,12 +68,12 @@ all-behind p (x ∷ ids) id every last = let parts = and_parts (p x) (list_all p
     and_from (p x) (list_all p (ids ++ id ∷ [])) parts.0 (all-behind p ids id parts.1 last)
 
 pub yellow-behind : (q : QueueView) (ids : List ActionId) (id : ActionId) → are_yellow q ids ≡ true →
-    names (names_of q.reds) id ≡ true → names ids id ≡ false → are_yellow q (ids ++ id ∷ []) ≡ true
+    has_name (names_of q.reds) id ≡ true → has_name ids id ≡ false → are_yellow q (ids ++ id ∷ []) ≡ true
 yellow-behind q ids id yellow red new =
     let parts = and_parts (is_distinct ids) (are_red (names_of q.reds) ids) yellow in
     and_from (is_distinct (ids ++ id ∷ [])) (are_red (names_of q.reds) (ids ++ id ∷ []))
     (distinct-behind ids id parts.0 new)
-    (all-behind (names (names_of q.reds)) ids id parts.1 red)
+    (all-behind (has_name (names_of q.reds)) ids id parts.1 red)
 
 -- a name that is known comes to the yellow ones
 pub record Yellowed (q : QueueView) (id : ActionId) : Type 0 where
@@ -86,7 +86,7 @@ pub yellowed : (h : Held) (id : ActionId) → Holds h →
 yellowed h id is le =
     let gc = h.queue.green_cut in
     elim (cases_Bool (nat_lt (index_in gc id.creator) id.index)) [
-      | inl above ↦ elim (cases_Bool (names h.queue.yellow id)) [
+      | inl above ↦ elim (cases_Bool (has_name h.queue.yellow id)) [
         | inl there ↦ record { list = h.queue.yellow; is = rw (above, there) refl; yellow = is.yellow }
         | inr new ↦ record {
           list = h.queue.yellow ++ id ∷ [];
@@ -97,7 +97,7 @@ yellowed h id is le =
       | inr below ↦ record { list = h.queue.yellow; is = rw below refl; yellow = is.yellow }
     ]
   where
-    red : nat_lt (index_in h.queue.green_cut id.creator) id.index ≡ true → names (names_of h.queue.reds) id ≡ true
+    red : nat_lt (index_in h.queue.green_cut id.creator) id.index ≡ true → has_name (names_of h.queue.reds) id ≡ true
     red above =
         run-names h.queue.green_cut (names_of h.queue.reds) id is.rising is.reds
         ∙ and_from (nat_lt (index_in h.queue.green_cut id.creator) id.index) (nat_le

@@ -4,7 +4,7 @@ use Rattle.std.specs.Prelude.{◌==◌}
 use Rattle.std.specs.List.{list_all}
 use Rattle.std.proofs.lemmas.Bool.{cases_eq, cases_order, cases_Bool, eq-eqb, ne_eqb, lt-ltb, le-ltb, lt-leb, le-leb, and_parts, and_from, cond-true, cond-false}
 use Rattle.cg_base.specs.declared.action_id.ActionId.{ActionId}
-use Rattle.cg_base.specs.Ids.{same_id, id_before, names}
+use Rattle.cg_base.specs.Ids.{same_id, id_before, has_name}
 use Rattle.cg_base.specs.Cuts.{index_in, raise}
 use Rattle.cg_disk_records.specs.Holds.{run_on, cut_behind, ascend, Rising}
 use Rattle.cg_base.specs.IdLaws.{same_id-true, same_id-false, same_name}
@@ -30,7 +30,7 @@ run-from cut x ids next rest =
 
 -- Between a run and numbers: the names of a run are, of each creator, those above the cut and up to the cut behind it.
 pub run-names : (cut ids : List ActionId) (id : ActionId) → Rising 0 cut → run_on cut ids ≡ true →
-    names ids id ≡ (nat_lt (index_in cut id.creator) id.index
+    has_name ids id ≡ (nat_lt (index_in cut id.creator) id.index
     && nat_le id.index (index_in (cut_behind cut ids) id.creator))
 run-names cut [] id rising run = sym (elim (cases_order id.index (index_in cut id.creator)) [
   | inl same ↦ outside (omega arith)
@@ -48,7 +48,7 @@ run-names cut (x ∷ ids) id rising run =
     let last = index_in (cut_behind (raise cut x) ids) id.creator in
     let more : index_in (raise cut x) id.creator ≤ last =
     behind-rises (raise cut x) ids id.creator (rising-raise cut x rising) in
-    let rest : names ids id ≡ (nat_lt (index_in (raise cut x) id.creator) id.index && nat_le id.index last) =
+    let rest : has_name ids id ≡ (nat_lt (index_in (raise cut x) id.creator) id.index && nat_le id.index last) =
     run-names (raise cut x) ids id (rising-raise cut x rising) (run-rest cut x ids run) in
     elim (cases_eq x.creator id.creator) [
       | inl same ↦
@@ -58,15 +58,15 @@ run-names cut (x ∷ ids) id rising run =
           ∙ (let most : max (index_in cut id.creator) x.index ≡ x.index = omega arith in most) in
           elim (cases_eq id.index x.index) [
             | inl this ↦
-                ap (λ b. b || names ids id) (same_id-true id x (sym same) this)
+                ap (λ b. b || has_name ids id) (same_id-true id x (sym same) this)
                 ∙ sym (and_from (nat_lt (index_in cut id.creator) id.index) (nat_le id.index last)
                 (lt-ltb (index_in cut id.creator) id.index (omega arith)) (le-leb id.index last (omega arith)))
             | inr other ↦
-                ap (λ b. b || names ids id) (same_id-false id x (inr other)) ∙ rest
+                ap (λ b. b || has_name ids id) (same_id-false id x (inr other)) ∙ rest
                 ∙ ap (λ b. b && nat_le id.index last) (beside here next at_cut other)
           ]
       | inr apart ↦
-          ap (λ b. b || names ids id) (same_id-false id x (inl (λ e. apart (sym e)))) ∙ rest
+          ap (λ b. b || has_name ids id) (same_id-false id x (inl (λ e. apart (sym e)))) ∙ rest
           ∙ ap (λ n. nat_lt n id.index && nat_le id.index last) (index-other cut x rising id.creator apart)
     ]
   where
@@ -364,11 +364,11 @@ before-else a b later other = elim (cases_order b.creator a.creator) [
     clash e = cc
 
 ascend-inserted-from : (z : ActionId) (ids : List ActionId) (id : ActionId) → id_before z id ≡ true →
-    names ids id ≡ false → ascend (z ∷ ids) ≡ true → ascend (z ∷ inserted ids id) ≡ true
+    has_name ids id ≡ false → ascend (z ∷ ids) ≡ true → ascend (z ∷ inserted ids id) ≡ true
 ascend-inserted-from z [] id first new up = and_from (id_before z id) true first refl
 ascend-inserted-from z (x ∷ ids) id first new up =
     let parts = ascend-parts z x ids up in
-    let news = or-parts (same_id id x) (names ids id) new in
+    let news = or-parts (same_id id x) (has_name ids id) new in
     elim (cases_Bool (id_before id x)) [
       | inl before ↦
           ap (λ zs. ascend (z ∷ zs)) (inserted-front x id ids before)
@@ -384,14 +384,14 @@ ascend-inserted-from z (x ∷ ids) id first new up =
     or-parts false b e = (refl, e)
     or-parts true b e = absurd (let clash : true ≡ false = e in cc)
 
-pub ascend-inserted : (ids : List ActionId) (id : ActionId) → names ids id ≡ false → ascend ids ≡ true →
+pub ascend-inserted : (ids : List ActionId) (id : ActionId) → has_name ids id ≡ false → ascend ids ≡ true →
     ascend (inserted ids id) ≡ true
 ascend-inserted [] id new up = refl
 ascend-inserted (x ∷ ids) id new up =
     elim (cases_Bool (id_before id x)) [
       | inl before ↦ ap ascend (inserted-front x id ids before) ∙ and_from (id_before id x) (ascend (x ∷ ids)) before up
       | inr later ↦
-          let news = or-parts (same_id id x) (names ids id) new in
+          let news = or-parts (same_id id x) (has_name ids id) new in
           ap ascend (inserted-later x id ids later)
           ∙ ascend-inserted-from x ids id (before-else id x later news.0) news.1 up
     ]
@@ -402,7 +402,7 @@ ascend-inserted (x ∷ ids) id new up =
 
 -- the name behind a run doesn't stand in it
 pub names-new : (cut ids : List ActionId) (id : ActionId) → Rising 0 cut → run_on cut ids ≡ true →
-    id.index ≡ suc (index_in (cut_behind cut ids) id.creator) → names ids id ≡ false
+    id.index ≡ suc (index_in (cut_behind cut ids) id.creator) → has_name ids id ≡ false
 names-new cut ids id rising run last =
     run-names cut ids id rising run
     ∙ ap (λ b. nat_lt (index_in cut id.creator) id.index

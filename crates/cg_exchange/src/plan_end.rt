@@ -1,6 +1,6 @@
 //! The end of a plan: what a member takes over, and whether an attempt begins.
 ghost use Rattle.std.specs.Prelude.{◌≡◌, filter, true, OnOk, IfOk};
-ghost use Rattle.cg_base.specs.Ids.{names};
+ghost use Rattle.cg_base.specs.Ids.{has_name};
 ghost use Rattle.cg_queue.specs.Answers.{AreReds};
 ghost use Rattle.cg_queue.specs.Distinct.{is_distinct};
 ghost use Rattle.cg_queue.specs.Queue.{names_of};
@@ -20,7 +20,7 @@ use cg_records::Yellow;
 use cg_wire::Msg;
 
 fn stands_in(list: &[ActionId], id: &ActionId) -> bool
-    ensures { result ≡ names list.now id.now }
+    ensures { result ≡ has_name list.now id.now }
 {
     list.iter().any(|other| *id == *other)
 }
@@ -47,7 +47,7 @@ fn names_once(core: &Core, ids: &[ActionId]) -> Result<IdList, NoMemory>
 }
 
 fn red_names(core: &Core, ids: &[ActionId]) -> Result<IdList, NoMemory>
-    ensures { IfOk result (λ list. list ≡ filter (names (names_of core.now.queue.reds)) ids.now) }
+    ensures { IfOk result (λ list. list ≡ filter (has_name (names_of core.now.queue.reds)) ids.now) }
 {
     let mut list = Row::new(core.alloc());
     for id in ids {

@@ -4,7 +4,7 @@ use Rattle.std.specs.Prelude.{◌≡◌, ℕ, not, List, [], ◌∷◌, ◌++◌
 use Rattle.std.specs.List.{flat_map}
 use Rattle.std.specs.Option.{option_map_or}
 use Rattle.cg_base.specs.declared.action_id.ActionId.{ActionId}
-use Rattle.cg_base.specs.Ids.{names}
+use Rattle.cg_base.specs.Ids.{has_name}
 use Rattle.cg_base.specs.Lists.{present}
 use Rattle.cg_action.specs.declared.action.Action.{Action}
 use Rattle.cg_queue.specs.Queue.{names_of}
@@ -51,7 +51,7 @@ known_by steps p = option_map_or (known_actions steps) (last_up p steps) []
 
 -- what two replicas know together, each action once
 abbrev pub together : List Action → List Action → List Action
-together these those = these ++ filter (λ a. not (names (names_of these) a.id)) those
+together these those = these ++ filter (λ a. not (has_name (names_of these) a.id)) those
 
 -- what is shown of a key is what the known actions make of it, and nothing else shows a key
 abbrev pub relaxed_due : List Step → Option RelaxedEvent → List RelaxedLine
@@ -63,7 +63,7 @@ relaxed_due steps None = []
 
 -- the two know the same actions, in whatever order
 abbrev pub KnowSame : List Action → List Action → Type 0
-KnowSame these those = (id : ActionId) → names (names_of these) id ≡ names (names_of those) id
+KnowSame these those = (id : ActionId) → has_name (names_of these) id ≡ has_name (names_of those) id
 
 -- Each cell that is shown is what the actions make that the lines of its replicas tell, each once; so two replicas that know the same
 -- actions show the same. An event is refused exactly where a test gives a reason, with the first one.

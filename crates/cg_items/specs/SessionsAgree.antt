@@ -3,7 +3,7 @@
 use Rattle.std.specs.Prelude.{◌≡◌, ◌≢◌, ℕ, ◌==◌, nat_lt, ◌≤◌, Bool, false, not, List, [], ◌∷◌, ◌++◌, Option, Some, None, Contains, length, fold, map, take, option_and_then, if◌then◌else◌}
 use Rattle.std.specs.List.{list_any, flat_map}
 use Rattle.cg_base.specs.declared.action_id.ActionId.{ActionId}
-use Rattle.cg_base.specs.Ids.{names}
+use Rattle.cg_base.specs.Ids.{has_name}
 use Rattle.cg_base.specs.Lists.{first_some, present}
 use Rattle.cg_action.specs.declared.action.Kind.TheVariants.{Update}
 use Rattle.cg_action.specs.declared.command.Cmd.{Cmd}
@@ -85,7 +85,7 @@ wrote_due other made = []
 
 -- the session that a line tells to have written the action
 abbrev pub writer_on : ActionId → SessionLine → Option ℕ
-writer_on id (Wrote s written) = if names (written ∷ []) id then Some s else None
+writer_on id (Wrote s written) = if has_name (written ∷ []) id then Some s else None
 writer_on id other = None
 
 abbrev pub writer_of : List SessionLine → ActionId → Option ℕ

@@ -7,7 +7,7 @@ use Rattle.std.proofs.lemmas.List.{map-append}
 use Rattle.cg_base.specs.Lists.{Each}
 use Rattle.cg_group.specs.EachLaws.{Each-append, Each-list_all, Each-weaker}
 use Rattle.cg_base.specs.declared.action_id.ActionId.{ActionId}
-use Rattle.cg_base.specs.Ids.{names, same_id}
+use Rattle.cg_base.specs.Ids.{has_name, same_id}
 use Rattle.cg_base.specs.IdLaws.{same_id-is, same_id-self}
 use Rattle.cg_base.specs.Cuts.{index_in}
 use Rattle.cg_base.specs.Sets.{IsId}
@@ -46,11 +46,11 @@ use Rattle.cg_items_agree.proofs.SessionsHolding.{names-each}
 
 -- ---- lists
 
-each-named : (ids : List ActionId) → Each (λ id. names ids id ≡ true) ids
+each-named : (ids : List ActionId) → Each (λ id. has_name ids id ≡ true) ids
 each-named [] = tt
 each-named (x ∷ ids) = (
-  ap (λ b. b || names ids x) (same_id-self x),
-  Each-weaker (λ id. names ids id ≡ true) (λ id. names (x ∷ ids) id ≡ true) (λ id there. or-later (same_id id x) (names ids id) there) ids (each-named ids),
+  ap (λ b. b || has_name ids x) (same_id-self x),
+  Each-weaker (λ id. has_name ids id ≡ true) (λ id. has_name (x ∷ ids) id ≡ true) (λ id there. or-later (same_id id x) (has_name ids id) there) ids (each-named ids),
 ) where
   or-later : (a b : Bool) → b ≡ true → (a || b) ≡ true
   or-later true b e = refl
@@ -133,7 +133,7 @@ module _ (stand : AlwaysStands) (tell : EveryRunTells) (steps : List Step) (run 
     at zero is = omega arith
     at (suc n) is =
         let top : ActionId = record { creator = q; index = suc n } in
-        let there : names (names_of greens ++ names_of r.held.queue.reds) top ≡ true =
+        let there : has_name (names_of greens ++ names_of r.held.queue.reds) top ≡ true =
         (all-known c r.held greens core).known top ∙ and_from (nat_lt 0 (suc n)) (nat_le (suc n) (index_in cut q)) (lt-ltb 0 (suc n) (omega arith)) (le-leb (suc n) (index_in cut q) (omega arith)) in
         let low = names-each (λ id. id.index ≤ index_in w.made id.creator) (names_of greens ++ names_of r.held.queue.reds) top all-low there in
         omega arith
@@ -160,9 +160,9 @@ module _ (stand : AlwaysStands) (tell : EveryRunTells) (steps : List Step) (run 
       subst (λ (ids : List ActionId). AreUpTo cut (ids ++ (r.held.queue.yellow ++ names_of (plain_reds r.held.queue))))
       (sym (ap (take (green_count r.held.queue)) told.order ∙ ordered)) (line-known c r.held greens core)
 
-  line-made : Each (λ id. names (made_names steps) id ≡ true) line-names
+  line-made : Each (λ id. has_name (made_names steps) id ≡ true) line-names
   line-made =
-      Each-weaker (λ id. names line-names id ≡ true) (λ id. names (made_names steps) id ≡ true) (λ id there.
+      Each-weaker (λ id. has_name line-names id ≡ true) (λ id. has_name (made_names steps) id ≡ true) (λ id there.
       let is = and_parts (nat_lt 0 id.index) (nat_le id.index (index_in cut id.creator)) (sym (line-up-to.known id) ∙ there) in
       let some = ltb-true 0 id.index is.0 in
       let most = leb-true id.index (index_in cut id.creator) is.1 in
@@ -184,9 +184,9 @@ module _ (stand : AlwaysStands) (tell : EveryRunTells) (steps : List Step) (run 
       each-parts P [] ys each = (tt, each)
       each-parts P (x ∷ xs) ys each = (let rest = each-parts P xs ys each.1 in ((each.0, rest.0), rest.1))
 
-      split-made : Each (λ id. names (made_names steps) id ≡ true) (take (green_count r.held.queue) (order_of steps))
-          × Each (λ id. names (made_names steps) id ≡ true) (r.held.queue.yellow ++ names_of (plain_reds r.held.queue))
-      split-made = each-parts (λ id. names (made_names steps) id ≡ true) (take (green_count r.held.queue) (order_of steps)) (r.held.queue.yellow ++ names_of (plain_reds r.held.queue)) line-made
+      split-made : Each (λ id. has_name (made_names steps) id ≡ true) (take (green_count r.held.queue) (order_of steps))
+          × Each (λ id. has_name (made_names steps) id ≡ true) (r.held.queue.yellow ++ names_of (plain_reds r.held.queue))
+      split-made = each-parts (λ id. has_name (made_names steps) id ≡ true) (take (green_count r.held.queue) (order_of steps)) (r.held.queue.yellow ++ names_of (plain_reds r.held.queue)) line-made
 
   pub knows : Knows steps p cut
   knows = record {

@@ -6,7 +6,7 @@ use Rattle.cg_group.specs.EachLaws.{Each-append, Each-filter}
 use Rattle.cg_base.specs.declared.action_id.ActionId.{ActionId}
 use Rattle.cg_base.specs.Calls.{greatest_cut}
 use Rattle.cg_base.specs.Cuts.{index_in, raise}
-use Rattle.cg_base.specs.Ids.{names}
+use Rattle.cg_base.specs.Ids.{has_name}
 use Rattle.cg_base.specs.Sets.{IsId}
 use Rattle.cg_action.specs.declared.action.Action.{Action}
 use Rattle.cg_queue.specs.Queue.{names_of}
@@ -75,30 +75,30 @@ module _ (c d : List ActionId) (rising : Rising 0 c) (also : Rising 0 d) (xs ys 
   in-greatest : (id : ActionId) → is_up_to (greatest_cut c d) id ≡ (nat_lt 0 id.index && nat_le id.index (max (index_in c id.creator) (index_in d id.creator)))
   in-greatest id = ap (λ n. nat_lt 0 id.index && nat_le id.index n) (greatest-at c d id.creator rising also)
 
-  together-times : (id : ActionId) → times id (names_of (together xs ys)) ≡ times id (names_of xs) + times id (filter (λ id. not (names (names_of xs) id)) (names_of ys))
+  together-times : (id : ActionId) → times id (names_of (together xs ys)) ≡ times id (names_of xs) + times id (filter (λ id. not (has_name (names_of xs) id)) (names_of ys))
   together-times id =
-      times-appended id xs (filter (λ a. not (names (names_of xs) a.id)) ys)
-      ∙ ap (λ ids. times id (names_of xs) + times id ids) (names-filtered (λ id. not (names (names_of xs) id)) ys)
+      times-appended id xs (filter (λ a. not (has_name (names_of xs) a.id)) ys)
+      ∙ ap (λ ids. times id (names_of xs) + times id ids) (names-filtered (λ id. not (has_name (names_of xs) id)) ys)
 
-  of-first : (id : ActionId) → names (names_of xs) id ≡ true → times id (names_of (together xs ys)) ≡ 1
+  of-first : (id : ActionId) → has_name (names_of xs) id ≡ true → times id (names_of (together xs ys)) ≡ 1
   of-first id there =
       let all = together-times id in
-      let none = times-failing (λ id. not (names (names_of xs) id)) id (names_of ys) (ap not there) in
+      let none = times-failing (λ id. not (has_name (names_of xs) id)) id (names_of ys) (ap not there) in
       let some = named-times id (names_of xs) there in
       let most = one.once id in
       omega arith
 
-  of-second : (id : ActionId) → names (names_of xs) id ≡ false →
+  of-second : (id : ActionId) → has_name (names_of xs) id ≡ false →
       times id (names_of (together xs ys)) ≡ times id (names_of ys)
   of-second id missing =
       let all = together-times id in
-      let passing = times-passing (λ id. not (names (names_of xs) id)) id (names_of ys) (ap not missing) in
+      let passing = times-passing (λ id. not (has_name (names_of xs) id)) id (names_of ys) (ap not missing) in
       let none = not-named id (names_of xs) missing in
       omega arith
 
   pub together-up-to : AreUpTo (greatest_cut c d) (names_of (together xs ys))
   together-up-to = counts (greatest_cut c d) (names_of (together xs ys))
-      (λ id is. elim (cases_Bool (names (names_of xs) id)) [
+      (λ id is. elim (cases_Bool (has_name (names_of xs) id)) [
         | inl there ↦ of-first id there
         | inr missing ↦
             let up : is_up_to d id ≡ true = sym (in-other id.index (index_in c id.creator) (index_in d id.creator) (sym (one.known id) ∙ missing)) ∙ sym (in-greatest id) ∙ is in
@@ -107,7 +107,7 @@ module _ (c d : List ActionId) (rising : Rising 0 c) (also : Rising 0 d) (xs ys 
             let same = of-second id missing in
             omega arith
       ])
-      (λ id isnt. elim (cases_Bool (names (names_of xs) id)) [
+      (λ id isnt. elim (cases_Bool (has_name (names_of xs) id)) [
         | inl there ↦ absurd (
             let up = in-either id.index (index_in c id.creator) (index_in d id.creator) (sym (one.known id) ∙ there) in
             let clash : true ≡ false = sym up ∙ sym (in-greatest id) ∙ isnt in cc)
@@ -144,8 +144,8 @@ module _ (order : OrderDoesNotMatter) (steps : List Step) (beside : IsBeside ste
       (λ n some. either n (index_in c n) refl some)
       (together xs ys)
       (together-up-to c d one.rising other.rising xs ys one.names other.names)
-      (Each-append (λ a. made_action steps a.id ≡ Some a) xs (filter (λ a. not (names (names_of xs) a.id)) ys) one.own
-      (Each-filter (λ a. made_action steps a.id ≡ Some a) (λ a. not (names (names_of xs) a.id)) ys other.own))
+      (Each-append (λ a. made_action steps a.id ≡ Some a) xs (filter (λ a. not (has_name (names_of xs) a.id)) ys) one.own
+      (Each-filter (λ a. made_action steps a.id ≡ Some a) (λ a. not (has_name (names_of xs) a.id)) ys other.own))
     where
       either : (n k : ℕ) → index_in c n ≡ k → 0 < index_in (greatest_cut c d) n → IsId n
       either n zero is some = other.ids n (let both = greatest-at c d n one.rising other.rising in omega arith)

@@ -4,7 +4,7 @@ use Rattle.std.specs.Prelude.{nat_lt, nat_le}
 use Rattle.std.specs.List.{list_all}
 use Rattle.std.proofs.lemmas.Bool.{cases_Bool, cond-true, cond-false, and_parts, and_from, or_cases, false_from_ne_true}
 use Rattle.cg_base.specs.declared.action_id.ActionId.{ActionId}
-use Rattle.cg_base.specs.Ids.{names, same_id}
+use Rattle.cg_base.specs.Ids.{has_name, same_id}
 use Rattle.cg_base.specs.IdLaws.{same_id-is}
 use Rattle.cg_base.specs.Cuts.{index_in}
 use Rattle.cg_action.specs.declared.action.Action.{Action}
@@ -27,11 +27,11 @@ is_up_to cut id = nat_lt 0 id.index && nat_le id.index (index_in cut id.creator)
 -- the names are those up to the cut, each once
 pub record AreUpTo (cut ids : List ActionId) : Type 0 where
   pub once : (id : ActionId) → times id ids ≤ 1
-  pub known : (id : ActionId) → names ids id ≡ is_up_to cut id
+  pub known : (id : ActionId) → has_name ids id ≡ is_up_to cut id
 
 -- ---- how often
 
-pub not-named : (id : ActionId) (ids : List ActionId) → names ids id ≡ false → times id ids ≡ 0
+pub not-named : (id : ActionId) (ids : List ActionId) → has_name ids id ≡ false → times id ids ≡ 0
 not-named id ids none = at (times id ids) refl where
   at : (n : ℕ) → times id ids ≡ n → times id ids ≡ 0
   at zero is = is
@@ -41,8 +41,8 @@ not-named id ids none = at (times id ids) refl where
 
 -- names that stand there once are there as often as the others
 pub same-times : (id : ActionId) (xs ys : List ActionId) → times id xs ≤ 1 → times id ys ≤ 1 →
-    names xs id ≡ names ys id → times id xs ≡ times id ys
-same-times id xs ys one other same = elim (cases_Bool (names xs id)) [
+    has_name xs id ≡ has_name ys id → times id xs ≡ times id ys
+same-times id xs ys one other same = elim (cases_Bool (has_name xs id)) [
   | inl there ↦
       let here = named-times id xs there in
       let also = named-times id ys (sym same ∙ there) in
@@ -55,10 +55,10 @@ pub as-often : (cut xs ys : List ActionId) → AreUpTo cut xs → AreUpTo cut ys
 as-often cut xs ys one other id = same-times id xs ys (one.once id) (other.once id) (one.known id ∙ sym (other.known id))
 
 -- names that are there as often as others
-pub named-as : (id : ActionId) (xs ys : List ActionId) → times id xs ≡ times id ys → names xs id ≡ names ys id
-named-as id xs ys same = elim (cases_Bool (names xs id)) [
+pub named-as : (id : ActionId) (xs ys : List ActionId) → times id xs ≡ times id ys → has_name xs id ≡ has_name ys id
+named-as id xs ys same = elim (cases_Bool (has_name xs id)) [
   | inl there ↦ there ∙ sym (times-named id ys (let here = named-times id xs there in omega arith))
-  | inr none ↦ none ∙ sym (false_from_ne_true (names ys id) (λ there.
+  | inr none ↦ none ∙ sym (false_from_ne_true (has_name ys id) (λ there.
       let here = named-times id ys there in
       let zero_times = not-named id xs none in
       absurd (omega arith)))
@@ -93,11 +93,11 @@ names-filtered t (a ∷ list) = elim (cases_Bool (t a.id)) [
 all-there : (t : ActionId → Bool) (ids : List ActionId) (id : ActionId) → list_all t ids ≡ true → 1 ≤ times id ids →
     t id ≡ true
 all-there t ids id all some = at ids all (times-named id ids some) where
-  at : (ids : List ActionId) → list_all t ids ≡ true → names ids id ≡ true → t id ≡ true
+  at : (ids : List ActionId) → list_all t ids ≡ true → has_name ids id ≡ true → t id ≡ true
   at [] all named = absurd (let clash : false ≡ true = named in cc)
   at (x ∷ ids) all named =
       let parts = and_parts (t x) (list_all t ids) all in
-      elim (or_cases (same_id id x) (names ids id) named) [
+      elim (or_cases (same_id id x) (has_name ids id) named) [
         | inl here ↦ ap t (same_id-is id x here) ∙ parts.0
         | inr later ↦ at ids parts.1 later
       ]
@@ -126,7 +126,7 @@ module _ (c : Chronicle) (h : Held) (greens : List Action) (core : IsCore c h gr
       subst (λ cut. AreUpTo cut (names_of greens ++ reds)) cut (run-up-to (names_of greens ++ reds) runs)
 
   -- a yellow name is that of a red action
-  yellow-red : (id : ActionId) → names yellow id ≡ true → names reds id ≡ true
+  yellow-red : (id : ActionId) → has_name yellow id ≡ true → has_name reds id ≡ true
   yellow-red id named =
       let above = and_parts (nat_lt (index_in h.queue.green_cut id.creator) id.index) (nat_le id.index (index_in (cut_behind h.queue.green_cut yellow) id.creator))
       (sym (run-names h.queue.green_cut yellow id rising-green core.yellow_closed.next) ∙ named) in
@@ -140,17 +140,17 @@ module _ (c : Chronicle) (h : Held) (greens : List Action) (core : IsCore c h gr
   marked-times : (id : ActionId) → times id (yellow ++ names_of (plain_reds h.queue)) ≡ times id reds
   marked-times id =
       let both = times-both id yellow (names_of (plain_reds h.queue)) in
-      let plain = ap (times id) (names-filtered (λ id. not (names yellow id)) h.queue.reds) in
-      elim (cases_Bool (names yellow id)) [
+      let plain = ap (times id) (names-filtered (λ id. not (has_name yellow id)) h.queue.reds) in
+      elim (cases_Bool (has_name yellow id)) [
         | inl there ↦
-            let none = times-failing (λ id. not (names yellow id)) id reds (ap not there) in
+            let none = times-failing (λ id. not (has_name yellow id)) id reds (ap not there) in
             let one = named-times id yellow there in
             let most = times-once h.queue.green_cut yellow id rising-green core.yellow_closed.next in
             let red = named-times id reds (yellow-red id there) in
             let once = times-once h.queue.green_cut reds id rising-green core.contiguous.reds in
             omega arith
         | inr other ↦
-            let all = times-passing (λ id. not (names yellow id)) id reds (ap not other) in
+            let all = times-passing (λ id. not (has_name yellow id)) id reds (ap not other) in
             let none = not-named id yellow other in
             omega arith
       ]

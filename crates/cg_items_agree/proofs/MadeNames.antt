@@ -4,7 +4,7 @@ use Rattle.std.proofs.lemmas.Bool.{cases_Bool, cond-true, cond-false, or_cases}
 use Rattle.std.proofs.lemmas.List.{map-append}
 use Rattle.cg_group.specs.EachLaws.{Each-append}
 use Rattle.cg_base.specs.declared.action_id.ActionId.{ActionId}
-use Rattle.cg_base.specs.Ids.{same_id, names}
+use Rattle.cg_base.specs.Ids.{same_id, has_name}
 use Rattle.cg_base.specs.Lists.{present, Each}
 use Rattle.cg_base.specs.IdLaws.{same_id-is, same_id-back}
 use Rattle.cg_action.specs.declared.action.Action.{Action}
@@ -45,7 +45,7 @@ pub record IsFoundIn (list : List Action) (id : ActionId) : Type 0 where
   pub found : named_in list id ≡ Some action
   pub name : action.id ≡ id
 
-pub found-there : (list : List Action) (id : ActionId) → names (names_of list) id ≡ true → IsFoundIn list id
+pub found-there : (list : List Action) (id : ActionId) → has_name (names_of list) id ≡ true → IsFoundIn list id
 found-there [] id is = absurd (let clash : false ≡ true = is in cc)
 found-there (a ∷ list) id is = elim (cases_Bool (same_id a.id id)) [
   | inl here ↦ record {
@@ -54,7 +54,7 @@ found-there (a ∷ list) id is = elim (cases_Bool (same_id a.id id)) [
     name = same_id-is a.id id here;
   }
   | inr other ↦
-      let rest = found-there list id (elim (or_cases (same_id id a.id) (names (names_of list) id) is) [
+      let rest = found-there list id (elim (or_cases (same_id id a.id) (has_name (names_of list) id) is) [
         | inl here ↦ absurd (let self = same_id-back id a.id here in let clash : true ≡ false = sym self ∙ other in cc)
         | inr later ↦ later
       ]) in
@@ -70,12 +70,12 @@ pub record IsMadeAs (steps : List Step) (id : ActionId) : Type 0 where
   pub found : made_action steps id ≡ Some action
   pub name : action.id ≡ id
 
-pub made-as : (steps : List Step) (id : ActionId) → names (made_names steps) id ≡ true → IsMadeAs steps id
+pub made-as : (steps : List Step) (id : ActionId) → has_name (made_names steps) id ≡ true → IsMadeAs steps id
 made-as steps id shown =
-    let is = found-there (made_from [] steps) id (ap (λ ids. names ids id) (names-from [] steps) ∙ shown) in
+    let is = found-there (made_from [] steps) id (ap (λ ids. has_name ids id) (names-from [] steps) ∙ shown) in
     record { action = is.action; found = is.found; name = is.name }
 
-pub made-names : (steps : List Step) (ids : List ActionId) → Each (λ id. names (made_names steps) id ≡ true) ids →
+pub made-names : (steps : List Step) (ids : List ActionId) → Each (λ id. has_name (made_names steps) id ≡ true) ids →
     names_of (made_actions steps ids) ≡ ids
 made-names steps [] each = refl
 made-names steps (id ∷ ids) each =

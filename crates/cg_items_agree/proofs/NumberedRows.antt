@@ -5,7 +5,7 @@ use Rattle.std.specs.List.{flat_map}
 use Rattle.std.proofs.lemmas.Bool.{cases_Bool, cases_eq, cases_lt, cond-true, cond-false, ne_eqb, and_parts, and_from, false_from_ne_true, ltb-true, leb-true, lt-ltb, le-leb}
 use Rattle.cg_group.specs.EachLaws.{Each-append, Each-weaker}
 use Rattle.cg_base.specs.declared.action_id.ActionId.{ActionId}
-use Rattle.cg_base.specs.Ids.{same_id, names}
+use Rattle.cg_base.specs.Ids.{same_id, has_name}
 use Rattle.cg_base.specs.IdLaws.{same_id-true, same_id-false, same_id-self}
 use Rattle.cg_base.specs.Cuts.{index_in}
 use Rattle.cg_base.specs.Lists.{count_up, row_at, Each}
@@ -124,7 +124,7 @@ counts cut ids one none = record {
   ];
   known = λ id. elim (cases_Bool (is_up_to cut id)) [
     | inl is ↦ times-named id ids (let count = one id is in omega arith) ∙ sym is
-    | inr not ↦ false_from_ne_true (names ids id) (λ there.
+    | inr not ↦ false_from_ne_true (has_name ids id) (λ there.
         let some = named-times id ids there in
         let count = none id not in
         absurd (omega arith)) ∙ sym not

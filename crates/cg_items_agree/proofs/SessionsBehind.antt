@@ -2,7 +2,7 @@
 use Rattle.std.proofs.Common.{◌≡◌, zero, suc, ◌<◌, ◌≤◌, Bool, true, false, ◌||◌, List, [], ◌∷◌, ◌++◌, map, flat_map, length, None, Contains, refl, sym, ap, subst, ◌∙◌, arith, if◌then◌else◌, append_assoc, append-nil}
 use Rattle.std.proofs.lemmas.List.{map-append}
 use Rattle.cg_base.specs.declared.action_id.ActionId.{ActionId}
-use Rattle.cg_base.specs.Ids.{same_id, names}
+use Rattle.cg_base.specs.Ids.{same_id, has_name}
 use Rattle.cg_base.specs.IdLaws.{same_id-is, same_id-self}
 use Rattle.cg_base.specs.Lists.{Each}
 use Rattle.cg_report.specs.declared.entry.Made.{Made}
@@ -95,10 +95,10 @@ made-through steps s =
     ap (map (λ (m : Made). m.id)) (flat-append (λ (s : Step). s.entry.made) steps (s ∷ []) ∙ ap (λ xs. flat_map (λ (s : Step). s.entry.made) steps ++ xs) (append-nil s.entry.made))
     ∙ map-append (λ (m : Made). m.id) (flat_map (λ (s : Step). s.entry.made) steps) s.entry.made
 
-pub contains-names : (ids : List ActionId) (id : ActionId) → Contains ids id → names ids id ≡ true
+pub contains-names : (ids : List ActionId) (id : ActionId) → Contains ids id → has_name ids id ≡ true
 contains-names [] id there = absurd (let less = there.1 in omega arith)
-contains-names (x ∷ ids) id (zero, less, is) = ap (λ b. b || names ids id) (subst (λ y. same_id id y ≡ true) (sym is) (same_id-self id))
-contains-names (x ∷ ids) id (suc k, less, is) = or-later (same_id id x) (names ids id) (contains-names ids id (k, omega arith, is)) where
+contains-names (x ∷ ids) id (zero, less, is) = ap (λ b. b || has_name ids id) (subst (λ y. same_id id y ≡ true) (sym is) (same_id-self id))
+contains-names (x ∷ ids) id (suc k, less, is) = or-later (same_id id x) (has_name ids id) (contains-names ids id (k, omega arith, is)) where
   or-later : (a b : Bool) → b ≡ true → (a || b) ≡ true
   or-later true b e = refl
   or-later false b e = e
@@ -181,7 +181,7 @@ module _ (laws : Laws) (before : List Step) (s : Step) (run : IsRunFrom no_world
         placed (a ∷ list) each = ((let at = each.0.0 in let low = each.0.1 in omega arith), placed list each.1)
 
   -- what stands in the order was made
-  pub ordered-made : (id : ActionId) → place_of s.world.order id ≤ length s.world.order → names (made_names now) id ≡ true
+  pub ordered-made : (id : ActionId) → place_of s.world.order id ≤ length s.world.order → has_name (made_names now) id ≡ true
   ordered-made id within =
       let there : Contains (order_of now) id = subst (λ (v : List ActionId). Contains v id) order-now (placed-there s.world.order id within) in
       contains-names (made_names now) id (is.agree.creator_order.made_before before s id ([], refl) there)

@@ -2,7 +2,7 @@
 use Rattle.std.proofs.Common.{◌≡◌, ◌⊎◌, ℕ, ◌==◌, ◌<◌, ◌≤◌, nat_lt, ◌&&◌, ◌||◌, List, [], ◌∷◌, ◌++◌, map, fold, flat_map, Option, Some, None, Bool, true, false, if◌then◌else◌, refl, sym, ap, subst, ◌∙◌, inl, inr, arith, append-nil, append_assoc}
 use Rattle.std.proofs.lemmas.Bool.{cases_lt, ltb-true, lt-ltb}
 use Rattle.cg_base.specs.declared.action_id.ActionId.{ActionId}
-use Rattle.cg_base.specs.Ids.{names, same_id}
+use Rattle.cg_base.specs.Ids.{has_name, same_id}
 use Rattle.cg_base.specs.Lists.{Each}
 use Rattle.cg_session.specs.Token.{wrote}
 use Rattle.cg_session_list.specs.declared.session.Session.{Session}
@@ -129,7 +129,7 @@ pub record WritesOn (open_ : List Session) (lines : List SessionLine) (w : Optio
   pub told : IsTold n.sessions (lines ++ n.lines)
   pub stands : (s : ℕ) → stands_in n.sessions s ≡ stands_in open_ s
   pub position : (s : ℕ) → position_in n.sessions s ≡ position_in open_ s
-  pub gained : (s : ℕ) (id : ActionId) → owns n.sessions s id ≡ true → (owns open_ s id ≡ true) ⊎ (names ids id ≡ true)
+  pub gained : (s : ℕ) (id : ActionId) → owns n.sessions s id ≡ true → (owns open_ s id ≡ true) ⊎ (has_name ids id ≡ true)
 
 module _ (open_ : List Session) (lines : List SessionLine) (is : IsTold open_ lines) where
   writes-none : (w : Option ℕ) (ids : List ActionId) → wrote_lines w ids ≡ [] → WritesOn open_ lines w ids (sessions_unchanged open_)
@@ -151,7 +151,7 @@ module _ (open_ : List Session) (lines : List SessionLine) (is : IsTold open_ li
     position = wrote-keeps open_ lines is t id may.0 may.1;
     gained = λ s x own. gains s x (sym (wrote-owns open_ lines is t id may.0 may.1 s x) ∙ own);
   } where
-    gains : (s : ℕ) (x : ActionId) → (owns open_ s x || ((t == s) && same_id x id)) ≡ true → (owns open_ s x ≡ true) ⊎ (names (id ∷ []) x ≡ true)
+    gains : (s : ℕ) (x : ActionId) → (owns open_ s x || ((t == s) && same_id x id)) ≡ true → (owns open_ s x ≡ true) ⊎ (has_name (id ∷ []) x ≡ true)
     gains s x e = test (owns open_ s x) (t == s) (same_id x id) e where
       test : (a b c : Bool) → (a || (b && c)) ≡ true → (a ≡ true) ⊎ ((c || false) ≡ true)
       test true b c e = inl refl
@@ -168,7 +168,7 @@ module _ (open_ : List Session) (lines : List SessionLine) (is : IsTold open_ li
     pub told : IsTold m.sessions (lines ++ m.lines)
     pub stands : (s : ℕ) → stands_in m.sessions s ≡ stands_in open_ s
     pub grows : (s : ℕ) → position_in open_ s ≤ position_in m.sessions s
-    pub gained : (s : ℕ) (id : ActionId) → owns m.sessions s id ≡ true → (owns open_ s id ≡ true) ⊎ (names made id ≡ true)
+    pub gained : (s : ℕ) (id : ActionId) → owns m.sessions s id ≡ true → (owns open_ s id ≡ true) ⊎ (has_name made id ≡ true)
     pub least : Each (λ id. (s : ℕ) → owns m.sessions s id ≡ true → place id ≤ position_in m.sessions s) replied
 
   pub follows-on : (place : ActionId → ℕ) (w : Option ℕ) (made replied : List ActionId) → MayWrite open_ lines made w → Ascends 0 (map place replied) →

@@ -3,7 +3,7 @@
 use Rattle.std.proofs.Common.{◌≡◌, ◌⊎◌, ℕ, suc, ◌≤◌, ◌||◌, List, [], ◌∷◌, ◌++◌, length, Option, Some, None, Bool, true, false, if◌then◌else◌, refl, sym, ap, subst, ◌∙◌, inl, inr, arith, eq-eqb, length-append}
 use Rattle.std.proofs.lemmas.Bool.{cases_Bool, or_cases}
 use Rattle.cg_base.specs.declared.action_id.ActionId.{ActionId}
-use Rattle.cg_base.specs.Ids.{names, same_id}
+use Rattle.cg_base.specs.Ids.{has_name, same_id}
 use Rattle.cg_base.specs.IdLaws.{same_id-is}
 use Rattle.cg_base.specs.Lists.{Each}
 use Rattle.cg_model.specs.Places.{place_of}
@@ -25,21 +25,21 @@ place-grows (x ∷ order) more id within = at (same_id x id) within (place-grows
   at true within rest = refl
   at false within rest = ap suc (rest (omega arith))
 
-pub names-each : (P : ActionId → Type 0) (ids : List ActionId) (id : ActionId) → Each P ids → names ids id ≡ true → P id
+pub names-each : (P : ActionId → Type 0) (ids : List ActionId) (id : ActionId) → Each P ids → has_name ids id ≡ true → P id
 names-each P [] id each there = absurd (let clash : false ≡ true = there in cc)
 names-each P (x ∷ ids) id each there = elim (cases_Bool (same_id id x)) [
   | inl here ↦ subst P (sym (same_id-is id x here)) each.0
-  | inr other ↦ names-each P ids id each.1 (sym (ap (λ b. b || names ids id) other) ∙ there)
+  | inr other ↦ names-each P ids id each.1 (sym (ap (λ b. b || has_name ids id) other) ∙ there)
 ]
 
 -- behind lines, with which sessions were opened, the names of the actions that were made, the order, and the names that were replied to
 pub record HoldsIn (lines : List SessionLine) (opened : ℕ → Bool) (made order replied : List ActionId) (open_ : List Session) : Type 0 where
   pub told : IsTold open_ lines
   pub stands : (s : ℕ) → stands_in open_ s ≡ opened s
-  pub known : (id : ActionId) → names made id ≡ false → writer_of lines id ≡ None
-  pub placed : (id : ActionId) → names replied id ≡ true → place_of order id ≤ length order
-  pub was_made : (id : ActionId) → names replied id ≡ true → names made id ≡ true
-  pub held : (s : ℕ) (id : ActionId) → owns open_ s id ≡ true → names replied id ≡ true → place_of order id ≤ position_in open_ s
+  pub known : (id : ActionId) → has_name made id ≡ false → writer_of lines id ≡ None
+  pub placed : (id : ActionId) → has_name replied id ≡ true → place_of order id ≤ length order
+  pub was_made : (id : ActionId) → has_name replied id ≡ true → has_name made id ≡ true
+  pub held : (s : ℕ) (id : ActionId) → owns open_ s id ≡ true → has_name replied id ≡ true → place_of order id ≤ position_in open_ s
 
 pub holds-first : HoldsIn [] (λ s. false) [] [] [] []
 holds-first = record {
@@ -71,15 +71,15 @@ holds-beside lines more opened opened_now made order replied open_ later h goes 
 module _ (lines : List SessionLine) (opened : ℕ → Bool) (made order replied : List ActionId) (open_ : List Session) (h : HoldsIn lines opened made order replied open_)
     (made_now more new : List ActionId) (w : Option ℕ) (mine : List ActionId) (m : SessionsNoted)
     (followed : Followed open_ lines h.told (λ id. place_of (order ++ more) id) w mine new m)
-    (grown : (id : ActionId) → names made id ≡ true → names made_now id ≡ true)
-    (mine_made : (id : ActionId) → names mine id ≡ true → names made_now id ≡ true)
-    (fresh : (id : ActionId) → names mine id ≡ true → names made id ≡ false)
+    (grown : (id : ActionId) → has_name made id ≡ true → has_name made_now id ≡ true)
+    (mine_made : (id : ActionId) → has_name mine id ≡ true → has_name made_now id ≡ true)
+    (fresh : (id : ActionId) → has_name mine id ≡ true → has_name made id ≡ false)
     (within : Each (λ id. place_of (order ++ more) id ≤ length (order ++ more)) new)
-    (new_made : Each (λ id. names made_now id ≡ true) new) where
-  known-now : (id : ActionId) → names made_now id ≡ false → writer_of (lines ++ m.lines) id ≡ None
+    (new_made : Each (λ id. has_name made_now id ≡ true) new) where
+  known-now : (id : ActionId) → has_name made_now id ≡ false → writer_of (lines ++ m.lines) id ≡ None
   known-now id none = at (writer_of (lines ++ m.lines) id) refl where
-    not-before : names made id ≡ false
-    not-before = elim (cases_Bool (names made id)) [
+    not-before : has_name made id ≡ false
+    not-before = elim (cases_Bool (has_name made id)) [
       | inl there ↦ absurd (let clash : true ≡ false = sym (grown id there) ∙ none in cc)
       | inr out ↦ out
     ]
@@ -93,10 +93,10 @@ module _ (lines : List SessionLine) (opened : ℕ → Bool) (made order replied 
           | inr there ↦ absurd (let clash : true ≡ false = sym (mine_made id there) ∙ none in cc)
         ]
 
-  either : (id : ActionId) → names (replied ++ new) id ≡ true → (names replied id ≡ true) ⊎ (names new id ≡ true)
-  either id there = or_cases (names replied id) (names new id) (sym (names-append replied new id) ∙ there)
+  either : (id : ActionId) → has_name (replied ++ new) id ≡ true → (has_name replied id ≡ true) ⊎ (has_name new id ≡ true)
+  either id there = or_cases (has_name replied id) (has_name new id) (sym (names-append replied new id) ∙ there)
 
-  still : (id : ActionId) → names replied id ≡ true → place_of (order ++ more) id ≡ place_of order id
+  still : (id : ActionId) → has_name replied id ≡ true → place_of (order ++ more) id ≡ place_of order id
   still id there = place-grows order more id (h.placed id there)
 
   pub holds-behind : HoldsIn (lines ++ m.lines) opened made_now (order ++ more) (replied ++ new) m.sessions
@@ -110,7 +110,7 @@ module _ (lines : List SessionLine) (opened : ℕ → Bool) (made order replied 
     ];
     was_made = λ id there. elim (either id there) [
       | inl old ↦ grown id (h.was_made id old)
-      | inr now ↦ names-each (λ id. names made_now id ≡ true) new id new_made now
+      | inr now ↦ names-each (λ id. has_name made_now id ≡ true) new id new_made now
     ];
     held = λ s id own there. elim (either id there) [
       | inl old ↦ elim (followed.gained s id own) [

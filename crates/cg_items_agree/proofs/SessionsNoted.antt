@@ -2,7 +2,7 @@
 use Rattle.std.proofs.Common.{◌≡◌, ℕ, ◌==◌, ◌≤◌, ◌||◌, is_some, is_none, IfSome, option_and_then, List, [], ◌∷◌, ◌++◌, map, fold, flat_map, length, Option, Some, None, Bool, true, false, refl, sym, ap, subst, ◌∙◌, append-nil}
 use Rattle.std.specs.Option.{option_map_or}
 use Rattle.cg_base.specs.declared.action_id.ActionId.{ActionId}
-use Rattle.cg_base.specs.Ids.{names}
+use Rattle.cg_base.specs.Ids.{has_name}
 use Rattle.cg_base.specs.Lists.{first_some, present, Each}
 use Rattle.cg_action.specs.declared.command.Cmd.{Cmd}
 use Rattle.cg_action.specs.declared.query.Query.{Query}
@@ -111,7 +111,7 @@ module _ (laws : Laws) (earlier : List Item) (open_ : List Session) (h : Holds e
 
     comes-behind : with_written asked s (sessions_unchanged open_) ≡ written_by w open_ mine → wrote_lines w mine ≡ wrote_due asked s.entry.made → read_due earlier asked ≡ [] →
         ((t : ℕ) → opens t asked ≡ false) → MayWrite open_ (session_lines earlier) mine w →
-        ((id : ActionId) → names mine id ≡ true → names (made_names (through before s)) id ≡ true) → ((id : ActionId) → names mine id ≡ true → names (made_names before) id ≡ false) → Comes earlier open_ f (Some s)
+        ((id : ActionId) → has_name mine id ≡ true → has_name (made_names (through before s)) id ≡ true) → ((id : ActionId) → has_name mine id ≡ true → has_name (made_names before) id ≡ false) → Comes earlier open_ f (Some s)
     comes-behind written lines none opens_none may mine_made fresh =
         let order = order_behind earlier ++ more in
         let stand = replies-stand laws before s run in
@@ -128,7 +128,7 @@ module _ (laws : Laws) (earlier : List Item) (open_ : List Session) (h : Holds e
           holds = still (holds-behind (session_lines earlier) (λ s. was_opened s earlier) (made_names before) (order_behind earlier) (replied_to earlier) open_ h
               (made_names before ++ map (λ m. m.id) s.entry.made) more new w mine (noted_in order) followed
               (λ id there. first (made_names before) (map (λ m. m.id) s.entry.made) id there)
-              (λ id there. sym (ap (λ ids. names ids id) (made-through before s)) ∙ mine_made id there) fresh within
+              (λ id there. sym (ap (λ ids. has_name ids id) (made-through before s)) ∙ mine_made id there) fresh within
               (each-made new stand.within));
         } where
           flat-lines : (order : List ActionId) →
@@ -139,12 +139,12 @@ module _ (laws : Laws) (earlier : List Item) (open_ : List Session) (h : Holds e
               (λ r. at_due earlier (place_of order r.id) (writer_of (session_lines earlier ++ wrote_lines w mine) r.id))
               (λ r. at-due earlier (place_of order r.id) (writer_of (session_lines earlier ++ wrote_lines w mine) r.id)) s.entry.replies)
 
-          first : (xs ys : List ActionId) (id : ActionId) → names xs id ≡ true → names (xs ++ ys) id ≡ true
-          first xs ys id there = names-append xs ys id ∙ ap (λ b. b || names ys id) there
+          first : (xs ys : List ActionId) (id : ActionId) → has_name xs id ≡ true → has_name (xs ++ ys) id ≡ true
+          first xs ys id there = names-append xs ys id ∙ ap (λ b. b || has_name ys id) there
 
-          each-made : (ids : List ActionId) → Each (λ id. place_of s.world.order id ≤ length s.world.order) ids → Each (λ id. names (made_names before ++ map (λ m. m.id) s.entry.made) id ≡ true) ids
-          each-made ids within = Each-weaker (λ id. place_of s.world.order id ≤ length s.world.order) (λ id. names (made_names before ++ map (λ m. m.id) s.entry.made) id ≡ true)
-              (λ id at. sym (ap (λ ids. names ids id) (made-through before s)) ∙ ordered-made laws before s run id at) ids within
+          each-made : (ids : List ActionId) → Each (λ id. place_of s.world.order id ≤ length s.world.order) ids → Each (λ id. has_name (made_names before ++ map (λ m. m.id) s.entry.made) id ≡ true) ids
+          each-made ids within = Each-weaker (λ id. place_of s.world.order id ≤ length s.world.order) (λ id. has_name (made_names before ++ map (λ m. m.id) s.entry.made) id ≡ true)
+              (λ id at. sym (ap (λ ids. has_name ids id) (made-through before s)) ∙ ordered-made laws before s run id at) ids within
 
           still : {lines : List SessionLine} {made order replied : List ActionId} {sessions : List Session} → HoldsIn lines (λ s. was_opened s earlier) made order replied sessions →
               HoldsIn lines (λ t. was_opened t earlier || opens t asked) made order replied sessions
@@ -183,19 +183,19 @@ module _ (laws : Laws) (earlier : List Item) (open_ : List Session) (h : Holds e
       Comes earlier open_ (Some (further.Session (Write t p cmds query))) (Some s)
   comes-write t p cmds query s run event may =
       comes-behind (Some (further.Session (Write t p cmds query))) s run (Some t) mine refl (wrote-ids t s.entry.made) refl (λ t. refl) (may.stands, fresh-one) within
-      (λ id there. names-each (λ id. names (made_names before) id ≡ false) mine id each-fresh there) where
+      (λ id there. names-each (λ id. has_name (made_names before) id ≡ false) mine id each-fresh there) where
         mine : List ActionId
         mine = map (λ (m : Made). m.id) s.entry.made
 
         made : IsMade p (Update cmds query) s.world s.entry.made
         made = write-made laws before s run p cmds query event may.creating
 
-        each-fresh : Each (λ id. names (made_names before) id ≡ false) (map (λ (m : Made). m.id) s.entry.made)
+        each-fresh : Each (λ id. has_name (made_names before) id ≡ false) (map (λ (m : Made). m.id) s.entry.made)
         each-fresh = at made where
-          at : IsMade p (Update cmds query) s.world s.entry.made → Each (λ id. names (made_names before) id ≡ false) (map (λ (m : Made). m.id) s.entry.made)
+          at : IsMade p (Update cmds query) s.world s.entry.made → Each (λ id. has_name (made_names before) id ≡ false) (map (λ (m : Made). m.id) s.entry.made)
           at (MadeOne replica up index is) =
-              subst (λ (list : List Made). Each (λ id. names (made_names before) id ≡ false) (map (λ (m : Made). m.id) list)) (sym is) (one-fresh laws before s run _ is, tt)
-          at (MadeNone down is) = subst (λ (list : List Made). Each (λ id. names (made_names before) id ≡ false) (map (λ (m : Made). m.id) list)) (sym is) tt
+              subst (λ (list : List Made). Each (λ id. has_name (made_names before) id ≡ false) (map (λ (m : Made). m.id) list)) (sym is) (one-fresh laws before s run _ is, tt)
+          at (MadeNone down is) = subst (λ (list : List Made). Each (λ id. has_name (made_names before) id ≡ false) (map (λ (m : Made). m.id) list)) (sym is) tt
 
         fresh-one : FreshOne (session_lines earlier) (map (λ (m : Made). m.id) s.entry.made)
         fresh-one = at made where
@@ -204,10 +204,10 @@ module _ (laws : Laws) (earlier : List Item) (open_ : List Session) (h : Holds e
               subst (λ (list : List Made). FreshOne (session_lines earlier) (map (λ (m : Made). m.id) list)) (sym is) (h.known _ (one-fresh laws before s run _ is))
           at (MadeNone down is) = subst (λ (list : List Made). FreshOne (session_lines earlier) (map (λ (m : Made). m.id) list)) (sym is) tt
 
-        within : (id : ActionId) → names (map (λ (m : Made). m.id) s.entry.made) id ≡ true → names (made_names (through before s)) id ≡ true
+        within : (id : ActionId) → has_name (map (λ (m : Made). m.id) s.entry.made) id ≡ true → has_name (made_names (through before s)) id ≡ true
         within id there =
             let ids = map (λ (m : Made). m.id) s.entry.made in
-            ap (λ ids. names ids id) (made-through before s) ∙ names-append (made_names before) ids id ∙ ap (λ b. names (made_names before) id || b) there ∙ or-true (names (made_names before) id) where
+            ap (λ ids. has_name ids id) (made-through before s) ∙ names-append (made_names before) ids id ∙ ap (λ b. has_name (made_names before) id || b) there ∙ or-true (has_name (made_names before) id) where
               or-true : (b : Bool) → (b || true) ≡ true
               or-true true = refl
               or-true false = refl

@@ -3,7 +3,7 @@ use Rattle.std.proofs.Common.{◌≡◌, ℕ, ◌==◌, ◌<◌, ◌≤◌, nat_
 use Rattle.std.proofs.lemmas.Bool.{cases_Bool, cases_lt, ltb-true, lt-ltb}
 use mathlib.Core.List.{map-append}
 use Rattle.cg_base.specs.declared.action_id.ActionId.{ActionId}
-use Rattle.cg_base.specs.Ids.{names, same_id}
+use Rattle.cg_base.specs.Ids.{has_name, same_id}
 use Rattle.cg_base.specs.IdLaws.{same_id-is}
 use Rattle.cg_base.specs.Lists.{first_some, present}
 use Rattle.cg_action.specs.declared.answer.Answer.{Answer}
@@ -53,10 +53,10 @@ pub or-none : (a : Option ℕ) → or_else a None ≡ a
 or-none None = refl
 or-none (Some x) = refl
 
-pub names-append : (a b : List ActionId) (id : ActionId) → names (a ++ b) id ≡ (names a id || names b id)
+pub names-append : (a b : List ActionId) (id : ActionId) → has_name (a ++ b) id ≡ (has_name a id || has_name b id)
 names-append [] b id = refl
 names-append (x ∷ a) b id = at (same_id id x) (names-append a b id) where
-  at : (c : Bool) → names (a ++ b) id ≡ (names a id || names b id) → (c || names (a ++ b) id) ≡ ((c || names a id) || names b id)
+  at : (c : Bool) → has_name (a ++ b) id ≡ (has_name a id || has_name b id) → (c || has_name (a ++ b) id) ≡ ((c || has_name a id) || has_name b id)
   at true rest = refl
   at false rest = rest
 
@@ -67,7 +67,7 @@ position_in open_ s = look (λ t. t.position) 0 open_ s
 
 -- the session has written the action
 abbrev pub owns : List Session → ℕ → ActionId → Bool
-owns open_ s id = look (λ t. names t.written id) false open_ s
+owns open_ s id = look (λ t. has_name t.written id) false open_ s
 
 -- The open sessions stand there once each. What one has seen is the last number of its lines, which never fall; what it wrote is
 -- told on them, and of no action two tell.
@@ -75,7 +75,7 @@ pub record IsTold (open_ : List Session) (lines : List SessionLine) : Type 0 whe
   pub apart : Apart open_
   pub position : (s : ℕ) → position_in open_ s ≡ last_from 0 (numbers_on s lines)
   pub rises : (s : ℕ) → Rises 0 (numbers_on s lines)
-  pub owned : (s : ℕ) (id : ActionId) → owns open_ s id ≡ names (written_in s lines) id
+  pub owned : (s : ℕ) (id : ActionId) → owns open_ s id ≡ has_name (written_in s lines) id
   pub writer : (s : ℕ) (id : ActionId) → owns open_ s id ≡ is_of s (writer_of lines id)
 
 pub told-first : IsTold [] []
@@ -111,7 +111,7 @@ told-on open_ later lines more is goes = record {
   rises = λ s. subst (Rises 0) (sym (numbers-append s lines more))
       (rises-append 0 (numbers_on s lines) (numbers_on s more) (is.rises s) (subst (λ k. Rises k (numbers_on s more)) (is.position s) (goes.rises s)));
   owned = λ s id. goes.owns s id ∙ is.owned s id
-      ∙ sym (ap (λ ids. names ids id) (written-append s lines more ∙ ap (λ ids. written_in s lines ++ ids) (goes.silent.written s) ∙ append-nil (written_in s lines)));
+      ∙ sym (ap (λ ids. has_name ids id) (written-append s lines more ∙ ap (λ ids. written_in s lines ++ ids) (goes.silent.written s) ∙ append-nil (written_in s lines)));
   writer = λ s id. goes.owns s id ∙ is.writer s id
       ∙ sym (ap (is_of s) (writer-append lines more id ∙ ap (or_else (writer_of lines id)) (goes.silent.writer id) ∙ or-none (writer_of lines id)));
 }
@@ -119,26 +119,26 @@ told-on open_ later lines more is goes = record {
 -- ---- a write
 
 wrote-position : (id : ActionId) (t : Token) → (wrote t id).position ≡ t.position
-wrote-position id t = at (names t.written id) where
+wrote-position id t = at (has_name t.written id) where
   at : (b : Bool) → (if b then t else record t { written = t.written ++ id ∷ [] }).position ≡ t.position
   at true = refl
   at false = refl
 
-wrote-names : (id : ActionId) (t : Token) (x : ActionId) → names (wrote t id).written x ≡ (names t.written x || same_id x id)
-wrote-names id t x = at (names t.written id) refl where
+wrote-names : (id : ActionId) (t : Token) (x : ActionId) → has_name (wrote t id).written x ≡ (has_name t.written x || same_id x id)
+wrote-names id t x = at (has_name t.written id) refl where
   or-false : (b : Bool) → (b || false) ≡ b
   or-false true = refl
   or-false false = refl
 
-  known : names t.written id ≡ true → names t.written x ≡ (names t.written x || same_id x id)
+  known : has_name t.written id ≡ true → has_name t.written x ≡ (has_name t.written x || same_id x id)
   known there = elim (cases_Bool (same_id x id)) [
-    | inl same ↦ (let is : names t.written x ≡ true = subst (λ y. names t.written y ≡ true) (sym (same_id-is x id same)) there in rw (is) refl)
-    | inr other ↦ sym (ap (λ b. names t.written x || b) other ∙ or-false (names t.written x))
+    | inl same ↦ (let is : has_name t.written x ≡ true = subst (λ y. has_name t.written y ≡ true) (sym (same_id-is x id same)) there in rw (is) refl)
+    | inr other ↦ sym (ap (λ b. has_name t.written x || b) other ∙ or-false (has_name t.written x))
   ]
 
-  at : (b : Bool) → names t.written id ≡ b → names (if b then t else record t { written = t.written ++ id ∷ [] }).written x ≡ (names t.written x || same_id x id)
+  at : (b : Bool) → has_name t.written id ≡ b → has_name (if b then t else record t { written = t.written ++ id ∷ [] }).written x ≡ (has_name t.written x || same_id x id)
   at true there = known there
-  at false there = names-append t.written (id ∷ []) x ∙ ap (λ b. names t.written x || b) (or-false (same_id x id))
+  at false there = names-append t.written (id ∷ []) x ∙ ap (λ b. has_name t.written x || b) (or-false (same_id x id))
 
 module _ (open_ : List Session) (lines : List SessionLine) (is : IsTold open_ lines) (t : ℕ) (id : ActionId) (stands : stands_in open_ t ≡ true) (fresh : writer_of lines id ≡ None) where
   abbrev after_write : List Session
@@ -150,21 +150,21 @@ module _ (open_ : List Session) (lines : List SessionLine) (is : IsTold open_ li
     at true = wrote-position id k
     at false = refl
 
-  gains : (s : ℕ) (x : ActionId) (k : Token) → names (change_at t (λ k. wrote k id) s k).written x ≡ (names k.written x || ((s == t) && same_id x id))
+  gains : (s : ℕ) (x : ActionId) (k : Token) → has_name (change_at t (λ k. wrote k id) s k).written x ≡ (has_name k.written x || ((s == t) && same_id x id))
   gains s x k = at (s == t) where
     or-false : (b : Bool) → b ≡ (b || false)
     or-false true = refl
     or-false false = refl
 
-    at : (b : Bool) → names (if b then wrote k id else k).written x ≡ (names k.written x || (b && same_id x id))
+    at : (b : Bool) → has_name (if b then wrote k id else k).written x ≡ (has_name k.written x || (b && same_id x id))
     at true = wrote-names id k x
-    at false = or-false (names k.written x)
+    at false = or-false (has_name k.written x)
 
   pub wrote-owns : (s : ℕ) (x : ActionId) → owns after_write s x ≡ (owns open_ s x || ((t == s) && same_id x id))
   wrote-owns s x =
-      look-changing t (λ k. wrote k id) (λ k. names k.written x) false open_ s
-      ∙ look-same (λ k. names (change_at t (λ k. wrote k id) s k).written x) (λ k. names k.written x || ((s == t) && same_id x id)) false (gains s x) open_ s
-      ∙ look-or (λ k. names k.written x) ((s == t) && same_id x id) open_ s
+      look-changing t (λ k. wrote k id) (λ k. has_name k.written x) false open_ s
+      ∙ look-same (λ k. has_name (change_at t (λ k. wrote k id) s k).written x) (λ k. has_name k.written x || ((s == t) && same_id x id)) false (gains s x) open_ s
+      ∙ look-or (λ k. has_name k.written x) ((s == t) && same_id x id) open_ s
       ∙ ap (λ b. owns open_ s x || b) (here (s == t) (t == s) refl refl) where
         here : (a b : Bool) → (s == t) ≡ a → (t == s) ≡ b → (stands_in open_ s && (a && same_id x id)) ≡ (b && same_id x id)
         here true true one two = ap (λ c. c && same_id x id) (ap (stands_in open_) (eqb-true s t one) ∙ stands)
@@ -175,13 +175,13 @@ module _ (open_ : List Session) (lines : List SessionLine) (is : IsTold open_ li
         here true false one two = absurd (let clash : true ≡ false = sym (eq-eqb t s (sym (eqb-true s t one))) ∙ two in cc)
         here false true one two = absurd (let clash : true ≡ false = sym (eq-eqb s t (sym (eqb-true t s two))) ∙ one in cc)
 
-  new-written : (s : ℕ) (x : ActionId) → names (written_in s (Wrote t id ∷ [])) x ≡ ((t == s) && same_id x id)
+  new-written : (s : ℕ) (x : ActionId) → has_name (written_in s (Wrote t id ∷ [])) x ≡ ((t == s) && same_id x id)
   new-written s x = at (t == s) where
     or-false : (b : Bool) → (b || false) ≡ b
     or-false true = refl
     or-false false = refl
 
-    at : (b : Bool) → names (present ((if b then Some id else None) ∷ [])) x ≡ (b && same_id x id)
+    at : (b : Bool) → has_name (present ((if b then Some id else None) ∷ [])) x ≡ (b && same_id x id)
     at true = or-false (same_id x id)
     at false = refl
 
@@ -218,8 +218,8 @@ module _ (open_ : List Session) (lines : List SessionLine) (is : IsTold open_ li
         ∙ ap (last_from 0) (sym (numbers-append s lines (Wrote t id ∷ []) ∙ append-nil (numbers_on s lines)));
     rises = λ s. subst (Rises 0) (sym (numbers-append s lines (Wrote t id ∷ []) ∙ append-nil (numbers_on s lines))) (is.rises s);
     owned = λ s x. wrote-owns s x ∙ ap (λ b. b || ((t == s) && same_id x id)) (is.owned s x)
-        ∙ sym (ap (λ ids. names ids x) (written-append s lines (Wrote t id ∷ [])) ∙ names-append (written_in s lines) (written_in s (Wrote t id ∷ [])) x
-        ∙ ap (λ b. names (written_in s lines) x || b) (new-written s x));
+        ∙ sym (ap (λ ids. has_name ids x) (written-append s lines (Wrote t id ∷ [])) ∙ names-append (written_in s lines) (written_in s (Wrote t id ∷ [])) x
+        ∙ ap (λ b. has_name (written_in s lines) x || b) (new-written s x));
     writer = λ s x. wrote-owns s x ∙ ap (λ b. b || ((t == s) && same_id x id)) (is.writer s x) ∙ new-writer s x ∙ ap (is_of s) (sym (writer-append lines (Wrote t id ∷ []) x));
   }
 
@@ -244,21 +244,21 @@ none-raised id place (o ∷ open_) apart none =
       others : List Session
       others = filter (λ (o : Session). raises o.token id place) open_
 
-      first : (b : Bool) → b ≡ true → (if b then names o.token.written id else owns open_ o.id id) ≡ false → names o.token.written id ≡ false
+      first : (b : Bool) → b ≡ true → (if b then has_name o.token.written id else owns open_ o.id id) ≡ false → has_name o.token.written id ≡ false
       first true is e = e
       first false is e = absurd (let clash : false ≡ true = is in cc)
 
       later : (s : ℕ) → owns open_ s id ≡ false
       later s = at (o.id == s) refl (none s) where
-        at : (b : Bool) → (o.id == s) ≡ b → (if b then names o.token.written id else owns open_ s id) ≡ false → owns open_ s id ≡ false
-        at true is e = look-none (λ t. names t.written id) false open_ s (ap (stands_in open_) (sym (eqb-true o.id s is)) ∙ apart.0)
+        at : (b : Bool) → (o.id == s) ≡ b → (if b then has_name o.token.written id else owns open_ s id) ≡ false → owns open_ s id ≡ false
+        at true is e = look-none (λ t. has_name t.written id) false open_ s (ap (stands_in open_) (sym (eqb-true o.id s is)) ∙ apart.0)
         at false is e = e
 
 -- the one session that wrote the action is told of its reply
 pub raised-due : (id : ActionId) (place : ℕ) (open_ : List Session) (w : Option ℕ) → Apart open_ → ((s : ℕ) → owns open_ s id ≡ is_of s w) → raised_lines open_ id place ≡ due_line open_ place w
 raised-due id place [] None apart owner = refl
 raised-due id place [] (Some s) apart owner = absurd (let clash : false ≡ true = owner s ∙ eq-eqb s s refl in cc)
-raised-due id place (o ∷ open_) w apart owner = at (names o.token.written id) refl (λ same. raised-due id place open_ w apart.1 same) where
+raised-due id place (o ∷ open_) w apart owner = at (has_name o.token.written id) refl (λ same. raised-due id place open_ w apart.1 same) where
   others : List Session
   others = filter (λ (o : Session). raises o.token id place) open_
 
@@ -267,10 +267,10 @@ raised-due id place (o ∷ open_) w apart owner = at (names o.token.written id) 
 
   -- no session stands there twice, so none of the others is the first one
   not-first : (s : ℕ) → (o.id == s) ≡ true → owns open_ s id ≡ false
-  not-first s is = look-none (λ t. names t.written id) false open_ s (ap (stands_in open_) (sym (eqb-true o.id s is)) ∙ apart.0)
+  not-first s is = look-none (λ t. has_name t.written id) false open_ s (ap (stands_in open_) (sym (eqb-true o.id s is)) ∙ apart.0)
 
-  here : names o.token.written id ≡ is_of o.id w
-  here = sym (ap (λ b. if b then names o.token.written id else owns open_ o.id id) self) ∙ owner o.id
+  here : has_name o.token.written id ≡ is_of o.id w
+  here = sym (ap (λ b. if b then has_name o.token.written id else owns open_ o.id id) self) ∙ owner o.id
 
   writer-is : (u : Option ℕ) → is_of o.id u ≡ true → u ≡ Some o.id
   writer-is None e = absurd (let clash : false ≡ true = e in cc)
@@ -278,13 +278,13 @@ raised-due id place (o ∷ open_) w apart owner = at (names o.token.written id) 
 
   rest-none : w ≡ Some o.id → (s : ℕ) → owns open_ s id ≡ false
   rest-none one s = by (o.id == s) refl (owner s ∙ ap (is_of s) one) where
-    by : (b : Bool) → (o.id == s) ≡ b → (if b then names o.token.written id else owns open_ s id) ≡ (o.id == s) → owns open_ s id ≡ false
+    by : (b : Bool) → (o.id == s) ≡ b → (if b then has_name o.token.written id else owns open_ s id) ≡ (o.id == s) → owns open_ s id ≡ false
     by true is e = not-first s is
     by false is e = e ∙ is
 
-  rest-same : names o.token.written id ≡ false → (s : ℕ) → owns open_ s id ≡ is_of s w
+  rest-same : has_name o.token.written id ≡ false → (s : ℕ) → owns open_ s id ≡ is_of s w
   rest-same out s = by (o.id == s) refl (owner s) where
-    by : (b : Bool) → (o.id == s) ≡ b → (if b then names o.token.written id else owns open_ s id) ≡ is_of s w → owns open_ s id ≡ is_of s w
+    by : (b : Bool) → (o.id == s) ≡ b → (if b then has_name o.token.written id else owns open_ s id) ≡ is_of s w → owns open_ s id ≡ is_of s w
     by true is e = not-first s is ∙ sym out ∙ e
     by false is e = e
 
@@ -297,7 +297,7 @@ raised-due id place (o ∷ open_) w apart owner = at (names o.token.written id) 
       | inr is ↦ is
     ]
 
-  at : (b : Bool) → names o.token.written id ≡ b → (((s : ℕ) → owns open_ s id ≡ is_of s w) → raised_lines open_ id place ≡ due_line open_ place w) →
+  at : (b : Bool) → has_name o.token.written id ≡ b → (((s : ℕ) → owns open_ s id ≡ is_of s w) → raised_lines open_ id place ≡ due_line open_ place w) →
       raised_lines (o ∷ open_) id place ≡ due_line (o ∷ open_) place w
   at true is rest =
       let one = writer-is w (sym here ∙ is) in
@@ -323,10 +323,10 @@ module _ (open_ : List Session) (id : ActionId) (place : ℕ) where
 
   -- what is written stays
   pub reply-owns : (s : ℕ) (x : ActionId) → owns (after_reply open_ id place) s x ≡ owns open_ s x
-  reply-owns s x = looked (λ t. names t.written x) false s ∙ look-same (λ k. names (replied k id place).written x) (λ k. names k.written x) false each open_ s where
-    each : (k : Token) → names (replied k id place).written x ≡ names k.written x
+  reply-owns s x = looked (λ t. has_name t.written x) false s ∙ look-same (λ k. has_name (replied k id place).written x) (λ k. has_name k.written x) false each open_ s where
+    each : (k : Token) → has_name (replied k id place).written x ≡ has_name k.written x
     each k = at (raises k id place) where
-      at : (b : Bool) → names (if b then record k { position = place } else k).written x ≡ names k.written x
+      at : (b : Bool) → has_name (if b then record k { position = place } else k).written x ≡ has_name k.written x
       at true = refl
       at false = refl
 
@@ -344,7 +344,7 @@ module _ (open_ : List Session) (id : ActionId) (place : ℕ) where
     each (o ∷ list) = at (o.id == s) (each list) where
       at : (b : Bool) → look (λ k. (replied k id place).position) 0 list s ≡ (if owns list s id && nat_lt (position_in list s) place then place else position_in list s) →
           (if b then (replied o.token id place).position else look (λ k. (replied k id place).position) 0 list s)
-          ≡ (if (if b then names o.token.written id else owns list s id) && nat_lt (if b then o.token.position else position_in list s) place then place else (if b then o.token.position else position_in list s))
+          ≡ (if (if b then has_name o.token.written id else owns list s id) && nat_lt (if b then o.token.position else position_in list s) place then place else (if b then o.token.position else position_in list s))
       at true rest = one o.token
       at false rest = rest
 
@@ -430,10 +430,10 @@ module _ (open_ : List Session) (apart : Apart open_) (t : ℕ) (a : Answer) (po
           by false true one two = absurd (let clash : true ≡ false = sym (eq-eqb s t (sym (eqb-true t s two))) ∙ one in cc)
 
         owns-behind : (s : ℕ) (x : ActionId) → owns (changing t (λ old. new) open_) s x ≡ owns open_ s x
-        owns-behind s x = look-changing t (λ old. new) (λ k. names k.written x) false open_ s ∙ by (s == t) refl where
-          by : (b : Bool) → (s == t) ≡ b → look (λ old. names (if b then new else old).written x) false open_ s ≡ owns open_ s x
-          by true one = ap (λ n. look (λ old. names k.written x) false open_ n) (eqb-true s t one) ∙ look-set (names k.written x) false open_ t there
-              ∙ sym (look-token (λ t. names t.written x) false open_ t k is) ∙ ap (λ n. owns open_ n x) (sym (eqb-true s t one))
+        owns-behind s x = look-changing t (λ old. new) (λ k. has_name k.written x) false open_ s ∙ by (s == t) refl where
+          by : (b : Bool) → (s == t) ≡ b → look (λ old. has_name (if b then new else old).written x) false open_ s ≡ owns open_ s x
+          by true one = ap (λ n. look (λ old. has_name k.written x) false open_ n) (eqb-true s t one) ∙ look-set (has_name k.written x) false open_ t there
+              ∙ sym (look-token (λ t. has_name t.written x) false open_ t k is) ∙ ap (λ n. owns open_ n x) (sym (eqb-true s t one))
           by false one = refl
 
         up : (s : ℕ) → low ≤ pos → (b : Bool) → (t == s) ≡ b → Rises (position_in open_ s) (present ((if b then Some pos else None) ∷ []))
@@ -470,5 +470,5 @@ goes-opened open_ t apart none = record {
   silent = record { written = λ s. refl; writer = λ x. refl };
   rises = λ s. tt;
   last = λ s. look-new (λ t. t.position) 0 refl open_ t s;
-  owns = λ s x. look-new (λ t. names t.written x) false refl open_ t s;
+  owns = λ s x. look-new (λ t. has_name t.written x) false refl open_ t s;
 }

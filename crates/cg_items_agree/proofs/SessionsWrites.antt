@@ -5,7 +5,7 @@ use Rattle.std.specs.Option.{option_map_or}
 use Rattle.std.proofs.lemmas.Bool.{cond-true, lt-leb}
 use Rattle.cg_base.specs.declared.action_id.ActionId.{ActionId}
 use Rattle.cg_base.specs.Cuts.{index_in}
-use Rattle.cg_base.specs.Ids.{names}
+use Rattle.cg_base.specs.Ids.{has_name}
 use Rattle.cg_action.specs.declared.action.Action.{Action}
 use Rattle.cg_action.specs.declared.action.Kind.{Kind}
 use Rattle.cg_action.specs.declared.action.Kind.TheVariants.{Update}
@@ -114,7 +114,7 @@ module _ (laws : Laws) (before : List Step) (s : Step) (run : IsRunFrom no_world
       subst (λ (m : Moved). IsMade p (Update cmds query) m.world m.entry.made) (sym moved)
       (request-made (chronicle_of before) (world_of before) p cmds query (was laws before s run).stands creating)
 
-  pub one-fresh : (x : Made) → s.entry.made ≡ x ∷ [] → names (made_names before) x.id ≡ false
+  pub one-fresh : (x : Made) → s.entry.made ≡ x ∷ [] → has_name (made_names before) x.id ≡ false
   one-fresh x is =
       let p = x.id.creator in
       let step = step-is laws before s run in

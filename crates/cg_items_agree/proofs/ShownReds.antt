@@ -8,7 +8,7 @@ use Rattle.cg_agree_lemmas.specs.BookGrows.{IsNamed, cut_of}
 use Rattle.cg_agree_lemmas.specs.BookedCores.{each-booked}
 use Rattle.cg_agree_lemmas.specs.HandsKept.{hosted}
 use Rattle.cg_base.specs.Cuts.{index_in}
-use Rattle.cg_base.specs.Ids.{names}
+use Rattle.cg_base.specs.Ids.{has_name}
 use Rattle.cg_client.specs.Replica.{Held, Replica, created}
 use Rattle.cg_disk_records.specs.RunMarkLaws.{run-names}
 use Rattle.cg_base.specs.Lists.{Each}
@@ -40,7 +40,7 @@ module _ (c : Chronicle) (w : World) (stands : StandsBeside c w) (fits : MadeFit
   -- an action of the book is counted by it
   booked-index : (a : Action) → IsNamed c.book a → a.id.index ≤ index_in (cut_of c.book) a.id.creator
   booked-index a is =
-      let there : names (names_of c.book) a.id ≡ true = found-name c.book a.id a is in
+      let there : has_name (names_of c.book) a.id ≡ true = found-name c.book a.id a is in
       let known : (nat_lt (index_in [] a.id.creator) a.id.index && nat_le a.id.index (index_in (cut_of c.book) a.id.creator)) ≡ true =
       sym (run-names [] (names_of c.book) a.id tt stands.facts.replica.made_once.numbered) ∙ there in
       leb-true a.id.index (index_in (cut_of c.book) a.id.creator) (and_parts (nat_lt (index_in [] a.id.creator) a.id.index) (nat_le a.id.index (index_in (cut_of c.book) a.id.creator)) known).1

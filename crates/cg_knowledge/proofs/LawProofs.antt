@@ -5,7 +5,7 @@ use Rattle.std.proofs.lemmas.Bool.{and_parts}
 use Rattle.std.proofs.lemmas.List.Elements.{All-nil, filter_passes}
 use Rattle.std.proofs.lemmas.List.Sums.{AllPass-from_list_all}
 use Rattle.cg_base.specs.declared.action_id.ActionId.{ActionId}
-use Rattle.cg_base.specs.Ids.{names}
+use Rattle.cg_base.specs.Ids.{has_name}
 use Rattle.cg_vote.specs.Quorum.{is_quorum}
 use Rattle.cg_vote.specs.QuorumLaws.{meet}
 use Rattle.cg_knowledge.specs.declared.summary.Summary.{Summary}
@@ -22,13 +22,13 @@ deciders_meet one other h k same =
     let second = and_parts (is_quorum (known_primary other).set (remaining other)) (all_cleared other) k in
     meet (known_primary one).set (remaining one) (remaining other) first.0 (subst (λ set. is_quorum set (remaining other) ≡ true) (sym same) second.0)
 
-in_each : (summaries : List Summary) (id : ActionId) → is_common summaries id ≡ true → All (λ s. names s.yellow.list id ≡ true) (yellow_group summaries)
+in_each : (summaries : List Summary) (id : ActionId) → is_common summaries id ≡ true → All (λ s. has_name s.yellow.list id ≡ true) (yellow_group summaries)
 unfolding is_in_each
 in_each summaries id is =
-    AllPass-from_list_all (λ s. names s.yellow.list id) (yellow_group summaries) (and_parts (is_in_each (yellow_group summaries) id) (not (is_green_at_most summaries id)) is).0
+    AllPass-from_list_all (λ s. has_name s.yellow.list id) (yellow_group summaries) (and_parts (is_in_each (yellow_group summaries) id) (not (is_green_at_most summaries id)) is).0
 
-stands_in : (summaries : List Summary) (low : Option Summary) → All (λ id. All (λ s. names s.yellow.list id ≡ true) (yellow_group summaries)) (yellow_of summaries low).list
-stands_in summaries None = All-nil (λ id. All (λ s. names s.yellow.list id ≡ true) (yellow_group summaries))
+stands_in : (summaries : List Summary) (low : Option Summary) → All (λ id. All (λ s. has_name s.yellow.list id ≡ true) (yellow_group summaries)) (yellow_of summaries low).list
+stands_in summaries None = All-nil (λ id. All (λ s. has_name s.yellow.list id ≡ true) (yellow_group summaries))
 stands_in summaries (Some s) = λ k d lt. in_each summaries _ (filter_passes (is_common summaries) s.yellow.list k d lt)
 
 pub common_stands : CommonStandsInEach

@@ -1,7 +1,7 @@
 -- What the members' knowledge means, as laws over the definitions.
 use Rattle.std.specs.Prelude.{◌≡◌, ◌≤◌, true, List, [], MatchOption}
 use Rattle.std.specs.List.{All, Contains}
-use Rattle.cg_base.specs.Ids.{names}
+use Rattle.cg_base.specs.Ids.{has_name}
 use Rattle.cg_vote.specs.Sharing.{ShareMember}
 use Rattle.cg_knowledge.specs.declared.summary.Summary.{Summary}
 use Rattle.cg_knowledge.specs.Summaries.{most_updated, remaining}
@@ -30,4 +30,4 @@ DecidersMeet =
 -- a common yellow action stands in the list of each member of the group
 abbrev pub CommonStandsInEach : Type 0
 CommonStandsInEach = (summaries : List Summary) →
-    All (λ id. All (λ s. names s.yellow.list id ≡ true) (yellow_group summaries)) (common_yellow summaries).list
+    All (λ id. All (λ s. has_name s.yellow.list id ≡ true) (yellow_group summaries)) (common_yellow summaries).list

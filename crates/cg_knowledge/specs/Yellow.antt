@@ -3,7 +3,7 @@ use Rattle.std.specs.Prelude.{Bool, true, false, not, ◌&&◌, nat_le, List, []
 use Rattle.std.specs.Option.{option_map_or}
 use Rattle.std.specs.List.{list_all}
 use Rattle.cg_base.specs.declared.action_id.ActionId.{ActionId}
-use Rattle.cg_base.specs.Ids.{names}
+use Rattle.cg_base.specs.Ids.{has_name}
 use Rattle.cg_base.specs.Cuts.{index_in}
 use Rattle.cg_records.specs.declared.yellow.Yellow.{Yellow}
 use Rattle.cg_knowledge.specs.declared.summary.Summary.{Summary}
@@ -21,7 +21,7 @@ is_green_at_most summaries id =
 
 -- the action stands in the list of each member of the group
 unfoldable pub is_in_each : List Summary → ActionId → Bool
-is_in_each group id = list_all (λ s. names s.yellow.list id) group
+is_in_each group id = list_all (λ s. has_name s.yellow.list id) group
 
 -- the action stands in each list, and isn't green at the most updated member
 abbrev pub is_common : List Summary → ActionId → Bool

@@ -1,5 +1,5 @@
 ghost use Rattle.std.specs.Prelude.{◌≡◌, OnOk, filter};
-ghost use Rattle.cg_base.specs.Ids.{names as names_id};
+ghost use Rattle.cg_base.specs.Ids.{has_name};
 
 use cg_base::{ActionId, NoMemory};
 use std::alloc::Global;
@@ -11,7 +11,7 @@ pub(crate) fn keep_shared(
     names: &mut Vec<ActionId>,
     other: &[ActionId],
 ) -> Result<(), NoMemory>
-    ensures { OnOk result (names.new.items ≡ filter (names_id other.now) names.old.items) }
+    ensures { OnOk result (names.new.items ≡ filter (has_name other.now) names.old.items) }
 {
     if names.is_empty() {
         return Ok(());

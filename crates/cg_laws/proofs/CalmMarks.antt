@@ -4,7 +4,7 @@ use Rattle.std.specs.Prelude.{◌==◌}
 use Rattle.std.specs.Option.{option_to_list}
 use Rattle.std.proofs.lemmas.Bool.{cond_both}
 use Rattle.cg_base.specs.declared.action_id.ActionId.{ActionId}
-use Rattle.cg_base.specs.Ids.{same_id, id_before, names}
+use Rattle.cg_base.specs.Ids.{same_id, id_before, has_name}
 use Rattle.cg_base.specs.Cuts.{index_in}
 use Rattle.cg_action.specs.declared.action.Action.{Action}
 use Rattle.cg_action.specs.declared.action.Kind.{Kind}
@@ -60,7 +60,7 @@ marked_red-calm q a fine calm =
 
 with_yellow-calm : (q : QueueView) (id : ActionId) → CalmQueue q → CalmQueue (with_yellow q id)
 with_yellow-calm q id calm =
-    cond_both (nat_lt (index_in q.green_cut id.creator) id.index && not (names q.yellow id)) (record q { yellow = q.yellow ++ id ∷ [] }) q CalmQueue (λ y. calm) (λ n. calm)
+    cond_both (nat_lt (index_in q.green_cut id.creator) id.index && not (has_name q.yellow id)) (record q { yellow = q.yellow ++ id ∷ [] }) q CalmQueue (λ y. calm) (λ n. calm)
 
 and_yellow-calm : (id : ActionId) (m : Marking) → CalmMarking m → CalmMarking (and_yellow id m)
 and_yellow-calm id (Marks mark q) calm = with_yellow-calm q id calm

@@ -5,7 +5,7 @@ use Rattle.std.specs.List.{list_all}
 use Rattle.std.proofs.lemmas.List.Folds.{list_all-map}
 use Rattle.cg_base.specs.declared.action_id.ActionId.{ActionId}
 use Rattle.cg_base.specs.Sets.{has, common, without, same_set}
-use Rattle.cg_base.specs.Ids.{names}
+use Rattle.cg_base.specs.Ids.{has_name}
 use Rattle.cg_base.specs.Cuts.{index_in}
 use Rattle.cg_records.specs.declared.vulnerable.Vulnerable.{Vulnerable}
 use Rattle.cg_knowledge.specs.declared.summary.Summary.{Summary}
@@ -69,7 +69,7 @@ module _ (one other : List Summary) (near : Near one other) where
 
   same-in_each : (id : ActionId) → is_in_each (yellow_group one) id ≡ is_in_each (yellow_group other) id
   unfolding is_in_each
-  same-in_each id = near-all (λ s. names s.yellow.list id) (yellow_group one) (yellow_group other) near-group
+  same-in_each id = near-all (λ s. has_name s.yellow.list id) (yellow_group one) (yellow_group other) near-group
 
   same-green_at_most : (id : ActionId) → is_green_at_most one id ≡ is_green_at_most other id
   unfolding is_green_at_most

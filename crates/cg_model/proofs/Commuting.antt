@@ -4,7 +4,7 @@ use Rattle.std.specs.Prelude.{◌==◌, option_and_then, IfSome}
 use Rattle.std.proofs.lemmas.Bool.{cases_eq, cases_Bool, eq-eqb, and_parts, and_from}
 use Rattle.std.proofs.lemmas.Option.{none-some}
 use Rattle.cg_base.specs.declared.action_id.ActionId.{ActionId}
-use Rattle.cg_base.specs.Ids.{same_id, id_before, names}
+use Rattle.cg_base.specs.Ids.{same_id, id_before, has_name}
 use Rattle.cg_base.specs.Cuts.{index_in, raise}
 use Rattle.cg_action.specs.declared.action.Action.{Action}
 use Rattle.cg_queue.specs.Queue.{names_of, with_red, without_action, action_of}
@@ -33,11 +33,11 @@ greened-to s id b found next =
 named-so : (xs : List Action) (id : ActionId) (b : Action) → find (λ a. same_id a.id id) xs ≡ Some b → b.id ≡ id
 named-so xs id b e = subst (λ (o : Option Action). IfSome o (λ a. a.id ≡ id)) e (found-named xs id)
 
-names-found : (xs : List Action) (id : ActionId) (b : Action) → find (λ a. same_id a.id id) xs ≡ Some b → names (names_of xs) id ≡ true
+names-found : (xs : List Action) (id : ActionId) (b : Action) → find (λ a. same_id a.id id) xs ≡ Some b → has_name (names_of xs) id ≡ true
 names-found [] id b e = absurd (none-some b e)
 names-found (x ∷ xs) id b e = elim (cases_Bool (same_id x.id id)) [
   | inl here ↦ rw (same_id-back x.id id here) refl
-  | inr other ↦ or-second (same_id id x.id) (names (names_of xs) id) (names-found xs id b (rw other at e))
+  | inr other ↦ or-second (same_id id x.id) (has_name (names_of xs) id) (names-found xs id b (rw other at e))
 ]
   where
     or-second : (x y : Bool) → y ≡ true → (x || y) ≡ true
@@ -45,7 +45,7 @@ names-found (x ∷ xs) id b e = elim (cases_Bool (same_id x.id id)) [
     or-second false y e = e
 
 -- the next green action of its creator, if it is known, is found among the reds
-pub red-within : (h : Held) (id : ActionId) → Holds h → names (names_of h.queue.reds) id ≡ true → id.index ≤ index_in h.queue.red_cut id.creator
+pub red-within : (h : Held) (id : ActionId) → Holds h → has_name (names_of h.queue.reds) id ≡ true → id.index ≤ index_in h.queue.red_cut id.creator
 red-within h id is red =
     let both = and_parts (nat_lt (index_in h.queue.green_cut id.creator) id.index) (nat_le id.index (index_in (cut_behind h.queue.green_cut (names_of h.queue.reds)) id.creator))
     (sym (run-names h.queue.green_cut (names_of h.queue.reds) id is.rising is.reds) ∙ red) in

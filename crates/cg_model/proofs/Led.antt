@@ -5,7 +5,7 @@ use Rattle.std.proofs.lemmas.Bool.{or_parts, cases_order, cases_Bool, lt-ltb, le
 use Rattle.std.proofs.lemmas.List.{append_assoc}
 use Rattle.std.proofs.lemmas.List.Sums.{fold-append}
 use Rattle.cg_base.specs.declared.action_id.ActionId.{ActionId}
-use Rattle.cg_base.specs.Ids.{same_id, id_before, names}
+use Rattle.cg_base.specs.Ids.{same_id, id_before, has_name}
 use Rattle.cg_base.specs.Cuts.{index_in, raise}
 use Rattle.cg_base.specs.IdLaws.{same_id-is, same_id-back, same_id-self}
 use Rattle.cg_action.specs.declared.action.Action.{Action}
@@ -112,12 +112,12 @@ led-green s known green h a found next led =
       alike = ap (λ (x : Stored). bare (with_green x a)) led.alike;
     }
 
-find-new : (reds : List Action) (a : Action) → names (names_of reds) a.id ≡ false → find (λ b. same_id b.id a.id) (with_red reds a) ≡ Some a
+find-new : (reds : List Action) (a : Action) → has_name (names_of reds) a.id ≡ false → find (λ b. same_id b.id a.id) (with_red reds a) ≡ Some a
 find-new [] a new = rw (same_id-self a.id) refl
 find-new (x ∷ reds) a new = elim (cases_Bool (id_before a.id x.id)) [
   | inl before ↦ rw (before, same_id-self a.id) refl
   | inr later ↦
-      let news = or_parts (same_id a.id x.id) (names (names_of reds) a.id) new in
+      let news = or_parts (same_id a.id x.id) (has_name (names_of reds) a.id) new in
       rw (later, apart news.0) (find-new reds a news.1)
 ]
   where
@@ -147,7 +147,7 @@ led-new s known green h a is made next above led =
     let next_red : a.id.index ≡ suc (index_in rc a.id.creator) = omega arith in
     let one = led-known s known green h a (fits-made h a is next_red made) led in
     let last : a.id.index ≡ suc (index_in (cut_behind h.queue.green_cut (names_of h.queue.reds)) a.id.creator) = next_red ∙ ap (λ c. suc (index_in c a.id.creator)) is.red_cut in
-    let new : names (names_of h.queue.reds) a.id ≡ false = names-new h.queue.green_cut (names_of h.queue.reds) a.id is.rising is.reds last in
+    let new : has_name (names_of h.queue.reds) a.id ≡ false = names-new h.queue.green_cut (names_of h.queue.reds) a.id is.rising is.reds last in
     let found : action_of (known_by h a).queue a.id ≡ Some a =
     find-red h.queue.greens (with_red h.queue.reds a) a.id (index_in h.queue.green_cut a.id.creator) (is.greens a.id.creator) (omega arith) ∙ find-new h.queue.reds a new in
     let two = led-green s (known ++ a ∷ []) green (known_by h a) a found next one in
@@ -211,14 +211,14 @@ found-booked book h a is reds fine next le =
     (lt-ltb (index_in h.queue.green_cut a.id.creator) a.id.index (omega arith))
     (ap (λ c. nat_le a.id.index (index_in c a.id.creator)) (sym is.red_cut) ∙ le-leb a.id.index (index_in h.queue.red_cut a.id.creator) le))
   where
-    in-reds : (list : List Action) → Each (Named book) list → names (names_of list) a.id ≡ true → find (λ b. same_id b.id a.id) list ≡ Some a
+    in-reds : (list : List Action) → Each (Named book) list → has_name (names_of list) a.id ≡ true → find (λ b. same_id b.id a.id) list ≡ Some a
     in-reds [] each there = absurd (let clash : false ≡ true = there in cc)
     in-reds (x ∷ list) each there = elim (cases_Bool (same_id x.id a.id)) [
       | inl here ↦ rw here (ap Some (sym each.0 ∙ ap book (same_id-is x.id a.id here) ∙ fine))
       | inr other ↦ rw other (in-reds list each.1 (rest (cases_Bool (same_id a.id x.id)) other there))
     ]
       where
-        rest : (same_id a.id x.id ≡ true) ⊎ (same_id a.id x.id ≡ false) → same_id x.id a.id ≡ false → names (names_of (x ∷ list)) a.id ≡ true → names (names_of list) a.id ≡ true
+        rest : (same_id a.id x.id ≡ true) ⊎ (same_id a.id x.id ≡ false) → same_id x.id a.id ≡ false → has_name (names_of (x ∷ list)) a.id ≡ true → has_name (names_of list) a.id ≡ true
         rest (inl same) other there = absurd (let clash : true ≡ false = sym (same_id-back a.id x.id same) ∙ other in cc)
         rest (inr apart) other there = rw apart at there
 

@@ -4,7 +4,7 @@ use Rattle.std.specs.Prelude.{◌==◌}
 use Rattle.std.specs.Option.{option_to_list}
 use Rattle.std.proofs.lemmas.Bool.{cases_eq, cases_order, cases_Bool, eq-eqb, ne_eqb, le-ltb, and_parts}
 use Rattle.cg_base.specs.declared.action_id.ActionId.{ActionId}
-use Rattle.cg_base.specs.Ids.{same_id, names}
+use Rattle.cg_base.specs.Ids.{same_id, has_name}
 use Rattle.cg_base.specs.Cuts.{index_in, raise}
 use Rattle.cg_base.specs.Sets.{has, is_within, with_member}
 use Rattle.cg_action.specs.declared.action.Action.{Action}
@@ -74,8 +74,8 @@ pub record IsRule (P : Turn → Type 0) (Fine : Action → Type 0) : Type 0 wher
 
 usable-from : (q : QueueView) (list ids : List ActionId) → are_yellow q list ≡ true → are_yellow q (fold (with_name q) list ids) ≡ true
 usable-from q list [] yellow = yellow
-usable-from q list (id ∷ ids) yellow = usable-from q (with_name q list id) ids (elim (cases_Bool (names (names_of q.reds) id)) [
-  | inl red ↦ elim (cases_Bool (names list id)) [
+usable-from q list (id ∷ ids) yellow = usable-from q (with_name q list id) ids (elim (cases_Bool (has_name (names_of q.reds) id)) [
+  | inl red ↦ elim (cases_Bool (has_name list id)) [
     | inl there ↦ rw (red, there) yellow
     | inr new ↦ rw (red, new) (yellow-behind q list id yellow red new)
   ]
@@ -112,7 +112,7 @@ find-red (g ∷ greens) reds id last counts lt = elim (cases_eq g.id.creator id.
     there apart c = rw (ne_eqb g.id.creator id.creator apart) at c
 
 -- the name of a red action is above the green cut
-pub red-above : (h : Held) (id : ActionId) → Holds h → names (names_of h.queue.reds) id ≡ true → index_in h.queue.green_cut id.creator < id.index
+pub red-above : (h : Held) (id : ActionId) → Holds h → has_name (names_of h.queue.reds) id ≡ true → index_in h.queue.green_cut id.creator < id.index
 red-above h id is red = elim (cases_Bool (nat_lt (index_in h.queue.green_cut id.creator) id.index)) [
   | inl above ↦ ltb-true above
   | inr below ↦ absurd (clash (sym red ∙ run-names h.queue.green_cut (names_of h.queue.reds) id is.rising is.reds ∙ rw below refl))
@@ -134,7 +134,7 @@ each-named : (Fine : Action → Type 0) (h : Held) (ids : List ActionId) → Hol
     Each Fine (actions_named h.queue ids)
 each-named Fine h [] is red fine = tt
 each-named Fine h (id ∷ ids) is red fine =
-    let parts = and_parts (names (names_of h.queue.reds) id) (are_red (names_of h.queue.reds) ids) red in
+    let parts = and_parts (has_name (names_of h.queue.reds) id) (are_red (names_of h.queue.reds) ids) red in
     let found = find-red h.queue.greens h.queue.reds id (index_in h.queue.green_cut id.creator) (is.greens id.creator) (red-above h id is parts.0) in
     each-both Fine (option_to_list (action_of h.queue id)) (actions_named h.queue ids)
     (subst (λ o. Each Fine (option_to_list o)) (sym found) (each-found Fine (λ a. same_id a.id id) h.queue.reds fine))

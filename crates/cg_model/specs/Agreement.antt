@@ -3,7 +3,7 @@ use Rattle.std.specs.Prelude.{◌≡◌, ℕ, suc, ◌==◌, ◌<◌, ◌≤◌,
 use Rattle.std.specs.List.{list_any}
 use Rattle.std.specs.Option.{option_map_or}
 use Rattle.cg_base.specs.declared.action_id.ActionId.{ActionId}
-use Rattle.cg_base.specs.Ids.{names}
+use Rattle.cg_base.specs.Ids.{has_name}
 use Rattle.cg_base.specs.Lists.{count_up, greatest}
 use Rattle.cg_base.specs.Sets.{has}
 use Rattle.cg_action.specs.declared.action.Action.{Action}
@@ -111,7 +111,7 @@ is_recovery_of p other = false
 
 -- the step shows the action as made, and not at a recovery of its creator
 abbrev pub is_created_in : ActionId → Step → Bool
-is_created_in id s = names (map (λ m. m.id) s.entry.made) id && not (is_recovery_of id.creator s.event)
+is_created_in id s = has_name (map (λ m. m.id) s.entry.made) id && not (is_recovery_of id.creator s.event)
 
 -- the action's creator hasn't crashed since it created it
 abbrev pub lives_since : ActionId → List Step → Bool

@@ -3,7 +3,7 @@ use Rattle.std.specs.Prelude.{◌≡◌, ℕ, suc, ◌≤◌, ◌<◌, ◌==◌,
 use Rattle.std.specs.Option.{option_map_or}
 use Rattle.cg_base.specs.declared.action_id.ActionId.{ActionId}
 use Rattle.cg_base.specs.Cuts.{index_in}
-use Rattle.cg_base.specs.Ids.{names}
+use Rattle.cg_base.specs.Ids.{has_name}
 use Rattle.cg_base.specs.Lists.{at_place, above_up_to}
 use Rattle.cg_base.specs.Sets.{has, is_within}
 use Rattle.cg_action.specs.declared.action.Action.{Action}
@@ -40,7 +40,7 @@ names_between heard best creator =
 
 abbrev pub red_names : List Summary → List ActionId
 red_names heard =
-    option_map_or (λ best. filter (λ id. not (names (common_yellow heard).list id))
+    option_map_or (λ best. filter (λ id. not (has_name (common_yellow heard).list id))
     (flat_map (names_between heard best) (creators heard)))
     (most_updated heard) []
 

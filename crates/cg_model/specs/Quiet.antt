@@ -4,7 +4,7 @@ use Rattle.std.specs.List.{list_all}
 use Rattle.std.specs.Option.{option_map_or}
 use Rattle.cg_base.specs.declared.action_id.ActionId.{ActionId}
 use Rattle.cg_base.specs.Sets.{has}
-use Rattle.cg_base.specs.Ids.{names}
+use Rattle.cg_base.specs.Ids.{has_name}
 use Rattle.cg_base.specs.Lists.{above_up_to, greatest}
 use Rattle.cg_base.specs.Cuts.{index_in}
 use Rattle.cg_action.specs.declared.action.Action.{Action}
@@ -53,7 +53,7 @@ summaries_in w conf = filter_map summary_in (messages_of w conf)
 abbrev pub is_known_in : World → ℕ → ActionId → Bool
 is_known_in w conf id =
     nat_le id.index (greatest (map (λ s. index_in s.red_cut id.creator) (summaries_in w conf)))
-    || names (names_of (filter_map action_in (messages_of w conf))) id
+    || has_name (names_of (filter_map action_in (messages_of w conf))) id
 
 -- the replica knows the action
 abbrev pub knows : Replica → ActionId → Bool

@@ -2,7 +2,7 @@
 use Rattle.std.specs.Prelude.{◌≡◌, ℕ, ◌==◌, nat_le, ◌≤◌, List, [], Option, Some, None, Contains, find, fold, if◌then◌else◌}
 use Rattle.std.specs.Option.{option_or}
 use Rattle.cg_base.specs.declared.action_id.ActionId.{ActionId}
-use Rattle.cg_base.specs.Ids.{names}
+use Rattle.cg_base.specs.Ids.{has_name}
 use Rattle.cg_base.specs.Cuts.{index_in}
 use Rattle.cg_action.specs.declared.action.Action.{Action}
 use Rattle.cg_queue.specs.Queue.{green_count}
@@ -48,7 +48,7 @@ pub record Tells (steps : List Step) (c : Chronicle) : Type 0 where
   pub position : (p : ℕ) (r : Replica) → replica_of c.world p ≡ Some r → position_of p steps ≡ green_count r.held.queue
   pub white : (p : ℕ) (r : Replica) → replica_of c.world p ≡ Some r → white_of p steps ≡ r.held.queue.white
   pub made : (id : ActionId) → 1 ≤ id.index →
-      names (made_names steps) id ≡ nat_le id.index (index_in c.world.made id.creator)
+      has_name (made_names steps) id ≡ nat_le id.index (index_in c.world.made id.creator)
   pub as_made : (a : Action) → Contains (made_of steps) a → Contains c.book a
 
 -- the steps of every run tell of the world that they lead to

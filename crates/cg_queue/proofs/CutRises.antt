@@ -2,7 +2,7 @@
 use Rattle.std.proofs.Common.{◌≡◌, ℕ, suc, ◌<◌, ◌≤◌, ◌≢◌, ◌||◌, ◌⊎◌, List, [], ◌∷◌, ◌++◌, filter, cond, max, Bool, not, true, false, refl, sym, ap, ◌∙◌, arith, inl, inr}
 use Rattle.std.proofs.lemmas.Bool.{cases_eq, cases_lt, cases_Bool, eq-eqb, ne_eqb, le-ltb, or_from}
 use Rattle.cg_base.specs.declared.action_id.ActionId.{ActionId}
-use Rattle.cg_base.specs.Ids.{same_id, names}
+use Rattle.cg_base.specs.Ids.{same_id, has_name}
 use Rattle.cg_base.specs.Sets.{IsId}
 use Rattle.cg_base.specs.Cuts.{index_in, raise}
 use Rattle.cg_base.specs.CutLimits.{IsCut}
@@ -26,28 +26,28 @@ module _ (cut : List ActionId) (id : ActionId) (is_cut : IsCut cut) where
 
 -- ---- names
 
-pub names-more : (ids : List ActionId) (id x : ActionId) → names (ids ++ id ∷ []) x ≡ (names ids x || same_id x id)
+pub names-more : (ids : List ActionId) (id x : ActionId) → has_name (ids ++ id ∷ []) x ≡ (has_name ids x || same_id x id)
 names-more [] id x = or_none (same_id x id)
   where
     or_none : (b : Bool) → (b || false) ≡ b
     or_none true = refl
     or_none false = refl
-names-more (y ∷ ids) id x = ap (λ b. same_id x y || b) (names-more ids id x) ∙ or_inner (same_id x y) (names ids x) (same_id x id)
+names-more (y ∷ ids) id x = ap (λ b. same_id x y || b) (names-more ids id x) ∙ or_inner (same_id x y) (has_name ids x) (same_id x id)
   where
     or_inner : (a b c : Bool) → (a || (b || c)) ≡ ((a || b) || c)
     or_inner true b c = refl
     or_inner false b c = refl
 
 -- a name that is another one than that at the end
-pub names-other : (ids : List ActionId) (id x : ActionId) → (x.creator ≢ id.creator) ⊎ (x.index ≢ id.index) → names ids x ≡ names (ids ++ id ∷ []) x
-names-other ids id x apart = sym (names-more ids id x ∙ ap (λ b. names ids x || b) (same_id-false x id apart) ∙ or_none (names ids x))
+pub names-other : (ids : List ActionId) (id x : ActionId) → (x.creator ≢ id.creator) ⊎ (x.index ≢ id.index) → has_name ids x ≡ has_name (ids ++ id ∷ []) x
+names-other ids id x apart = sym (names-more ids id x ∙ ap (λ b. has_name ids x || b) (same_id-false x id apart) ∙ or_none (has_name ids x))
   where
     or_none : (b : Bool) → (b || false) ≡ b
     or_none true = refl
     or_none false = refl
 
-pub names-last : (ids : List ActionId) (id x : ActionId) → x.creator ≡ id.creator → x.index ≡ id.index → true ≡ names (ids ++ id ∷ []) x
-names-last ids id x creators indexes = sym (names-more ids id x ∙ ap (λ b. names ids x || b) (same_id-true x id creators indexes) ∙ or_true (names ids x))
+pub names-last : (ids : List ActionId) (id x : ActionId) → x.creator ≡ id.creator → x.index ≡ id.index → true ≡ has_name (ids ++ id ∷ []) x
+names-last ids id x creators indexes = sym (names-more ids id x ∙ ap (λ b. has_name ids x || b) (same_id-true x id creators indexes) ∙ or_true (has_name ids x))
   where
     or_true : (b : Bool) → (b || true) ≡ true
     or_true true = refl
@@ -74,11 +74,11 @@ AreKnown-filter cut test (id ∷ ids) known = elim (cases_Bool (test id)) [
 ]
 
 -- a name behind the cut stands in no list of known ones
-pub names-unknown : (cut ids : List ActionId) (id : ActionId) → AreKnown cut ids → index_in cut id.creator < id.index → names ids id ≡ false
+pub names-unknown : (cut ids : List ActionId) (id : ActionId) → AreKnown cut ids → index_in cut id.creator < id.index → has_name ids id ≡ false
 names-unknown cut [] id known above = refl
 names-unknown cut (y ∷ ids) id known above =
     let here : y.index ≤ index_in cut y.creator = known.0 in
-    or_from (same_id id y) (names ids id) (elim (cases_eq id.creator y.creator) [
+    or_from (same_id id y) (has_name ids id) (elim (cases_eq id.creator y.creator) [
       | inl same ↦ same_id-false id y (inr (λ e. let there : y.index ≤ index_in cut id.creator = rw (← same) at here in omega arith))
       | inr apart ↦ same_id-false id y (inl apart)
     ]) (names-unknown cut ids id known.2 above)
@@ -89,10 +89,10 @@ pub is_above-false : (cut : List ActionId) (id : ActionId) → id.index ≤ inde
 is_above-false cut id le = le-ltb (index_in cut id.creator) id.index le
 
 -- a name up to the cut isn't one behind it
-pub names-below : (cut ids : List ActionId) (id : ActionId) → is_above cut id ≡ false → names (filter (is_above cut) ids) id ≡ false
+pub names-below : (cut ids : List ActionId) (id : ActionId) → is_above cut id ≡ false → has_name (filter (is_above cut) ids) id ≡ false
 names-below cut [] id below = refl
 names-below cut (y ∷ ids) id below = elim (cases_Bool (is_above cut y)) [
-  | inl passes ↦ rw passes (or_from (same_id id y) (names (filter (is_above cut) ids) id) (other y passes) (names-below cut ids id below))
+  | inl passes ↦ rw passes (or_from (same_id id y) (has_name (filter (is_above cut) ids) id) (other y passes) (names-below cut ids id below))
   | inr fails ↦ rw fails (names-below cut ids id below)
 ]
   where
@@ -110,11 +110,11 @@ names-below cut (y ∷ ids) id below = elim (cases_Bool (is_above cut y)) [
         never : true ≡ false → ⊥
         never e = cc
 
-pub names-above : (cut ids : List ActionId) (id : ActionId) → is_above cut id ≡ true → names (filter (is_above cut) ids) id ≡ names ids id
+pub names-above : (cut ids : List ActionId) (id : ActionId) → is_above cut id ≡ true → has_name (filter (is_above cut) ids) id ≡ has_name ids id
 names-above cut [] id above = refl
 names-above cut (y ∷ ids) id above = elim (cases_Bool (is_above cut y)) [
   | inl passes ↦ rw passes (ap (λ b. same_id id y || b) (names-above cut ids id above))
-  | inr fails ↦ rw fails (names-above cut ids id above ∙ ap (λ b. b || names ids id) (sym (other y fails)))
+  | inr fails ↦ rw fails (names-above cut ids id above ∙ ap (λ b. b || has_name ids id) (sym (other y fails)))
 ]
   where
     other : (y : ActionId) → is_above cut y ≡ false → same_id id y ≡ false

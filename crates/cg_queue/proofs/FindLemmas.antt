@@ -4,7 +4,7 @@ use Rattle.std.specs.Prelude.{find, slice_get, nat_lt}
 use Rattle.std.specs.Option.{option_map}
 use Rattle.std.proofs.lemmas.Bool.{cases_eq, cases_lt, cases_Bool, eq-eqb, ne_eqb, lt-ltb, le-ltb, false_from_ne_true}
 use Rattle.cg_base.specs.declared.action_id.ActionId.{ActionId}
-use Rattle.cg_base.specs.Ids.{same_id, names}
+use Rattle.cg_base.specs.Ids.{same_id, has_name}
 use Rattle.cg_base.specs.Sets.{IsId}
 use Rattle.cg_base.specs.Cuts.{index_in}
 use Rattle.cg_action.specs.declared.action.Action.{Action}
@@ -227,21 +227,21 @@ module _ (b : Parts) (id : ActionId) (sound : IsSound b) (is_id : IsId id.creato
   cut_there : index_in b.green_cut (suc (lane_of id)) ≡ index_in b.green_cut id.creator
   cut_there = ap (index_in b.green_cut) (has_lane id is_id).creator
 
-  pub red-not : id.index ≤ index_in b.green_cut id.creator → names (names_of (all_reds b.reds)) id ≡ false
-  red-not le = false_from_ne_true (names (names_of (all_reds b.reds)) id) (λ there.
+  pub red-not : id.index ≤ index_in b.green_cut id.creator → has_name (names_of (all_reds b.reds)) id ≡ false
+  red-not le = false_from_ne_true (has_name (names_of (all_reds b.reds)) id) (λ there.
       let found = is_named b.reds (low_of b) (stretches_of b sound) id there in
       let creator = found.creator in
       let above = found.above in
       let green : index_in b.green_cut (suc found.slot) ≡ index_in b.green_cut id.creator = ap (index_in b.green_cut) (sym creator) in
       omega arith)
 
-  pub red-test : (i : ℕ) → id.index ≡ suc (index_in b.green_cut id.creator) + i → nat_lt i (length (b.reds (lane_of id))) ≡ names (names_of (all_reds b.reds)) id
+  pub red-test : (i : ℕ) → id.index ≡ suc (index_in b.green_cut id.creator) + i → nat_lt i (length (b.reds (lane_of id))) ≡ has_name (names_of (all_reds b.reds)) id
   red-test i index =
       let own = has_lane id is_id in
       let green = cut_there in
       elim (cases_lt i (length (b.reds (lane_of id)))) [
         | inl lt ↦ lt-ltb i (length (b.reds (lane_of id))) lt ∙ sym (names-all b.reds (low_of b) (stretches_of b sound) (lane_of id) i id own.within (sym own.creator) (omega arith) lt)
-        | inr le ↦ le-ltb i (length (b.reds (lane_of id))) le ∙ sym (false_from_ne_true (names (names_of (all_reds b.reds)) id) (λ there.
+        | inr le ↦ le-ltb i (length (b.reds (lane_of id))) le ∙ sym (false_from_ne_true (has_name (names_of (all_reds b.reds)) id) (λ there.
             let found = is_named b.reds (low_of b) (stretches_of b sound) id there in
             let creator = found.creator in
             let row : found.slot ≡ lane_of id = omega arith in

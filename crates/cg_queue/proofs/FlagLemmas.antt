@@ -2,7 +2,7 @@
 use Rattle.std.proofs.Common.{◌≡◌, ℕ, zero, suc, ◌+◌, ◌<◌, ◌≤◌, ◌≢◌, ◌⊎◌, ◌||◌, List, [], ◌∷◌, ◌++◌, length, drop, filter, true, false, sym, ap, ◌∙◌, arith, inl, inr}
 use Rattle.std.proofs.lemmas.Bool.{cases_Bool}
 use Rattle.cg_base.specs.declared.action_id.ActionId.{ActionId}
-use Rattle.cg_base.specs.Ids.{names}
+use Rattle.cg_base.specs.Ids.{has_name}
 use Rattle.cg_base.specs.Cuts.{index_in}
 use Rattle.cg_queue.specs.declared.red.Red.{Red}
 use Rattle.cg_queue.specs.Lanes.{marked_at}
@@ -49,7 +49,7 @@ Flagged-marked yellow id c from (r ∷ reds) (suc i) stretch lt creator index fl
 
 -- ---- an action more or less
 
-pub Flagged-append : (yellow : List ActionId) (reds : List Red) (r : Red) → Flagged yellow reds → r.is_yellow ≡ names yellow r.action.id → Flagged yellow (reds ++ r ∷ [])
+pub Flagged-append : (yellow : List ActionId) (reds : List Red) (r : Red) → Flagged yellow reds → r.is_yellow ≡ has_name yellow r.action.id → Flagged yellow (reds ++ r ∷ [])
 Flagged-append yellow [] r flags own = (own, tt)
 Flagged-append yellow (x ∷ reds) r flags own = (flags.0, Flagged-append yellow reds r flags.1 own)
 
@@ -72,14 +72,14 @@ Flagged-above cut yellow c from (r ∷ reds) above stretch flags =
 -- each action with a flag is one of the list
 abbrev pub OnlyFlagged : List ActionId → List Red → Type 0
 OnlyFlagged yellow [] = Unit {0}
-OnlyFlagged yellow (r ∷ reds) = (r.is_yellow ≡ true → names yellow r.action.id ≡ true) × OnlyFlagged yellow reds
+OnlyFlagged yellow (r ∷ reds) = (r.is_yellow ≡ true → has_name yellow r.action.id ≡ true) × OnlyFlagged yellow reds
 
 pub OnlyFlagged-from : (yellow : List ActionId) (reds : List Red) → Flagged yellow reds → OnlyFlagged yellow reds
 OnlyFlagged-from yellow [] flags = tt
 OnlyFlagged-from yellow (r ∷ reds) flags = ((λ on. sym (flags.0) ∙ on), OnlyFlagged-from yellow reds flags.1)
 
-rest_of : (yellow : List ActionId) (id x : ActionId) → (x.creator ≢ id.creator) ⊎ (x.index ≢ id.index) → names (id ∷ yellow) x ≡ true → names yellow x ≡ true
-rest_of yellow id x apart there = let e : names (id ∷ yellow) x ≡ names yellow x = ap (λ b. b || names yellow x) (same_id-false x id apart) in sym e ∙ there
+rest_of : (yellow : List ActionId) (id x : ActionId) → (x.creator ≢ id.creator) ⊎ (x.index ≢ id.index) → has_name (id ∷ yellow) x ≡ true → has_name yellow x ≡ true
+rest_of yellow id x apart there = let e : has_name (id ∷ yellow) x ≡ has_name yellow x = ap (λ b. b || has_name yellow x) (same_id-false x id apart) in sym e ∙ there
 
 pub OnlyFlagged-others : (yellow : List ActionId) (id : ActionId) (c from : ℕ) (reds : List Red) → Stretch c from reds → IsOutside id c from (length reds) → OnlyFlagged (id ∷ yellow) reds → OnlyFlagged yellow reds
 OnlyFlagged-others yellow id c from [] stretch outside only = tt

@@ -3,7 +3,7 @@ use Rattle.std.proofs.Common.{◌≡◌, ℕ, zero, suc, length, take, drop, sli
 use Rattle.std.specs.Prelude.{◌&&◌}
 use Rattle.std.proofs.lemmas.Bool.{cases_eq, cases_Bool, eq-eqb, ne_eqb, or_from}
 use Rattle.cg_base.specs.declared.action_id.ActionId.{ActionId}
-use Rattle.cg_base.specs.Ids.{same_id, names}
+use Rattle.cg_base.specs.Ids.{same_id, has_name}
 use Rattle.cg_base.specs.IdLaws.{same_id-is, same_id-back}
 use Rattle.cg_base.specs.Cuts.{index_in, raise}
 use Rattle.cg_base.specs.CutLimits.{IsCut}
@@ -40,9 +40,9 @@ behind-next cut (x ∷ ids) id is_cut behind =
     (omega arith, behind-next cut ids id is_cut behind.1)
 
 -- a name beyond the cut isn't one of those behind it
-pub new-beyond : (cut ids : List ActionId) (id : ActionId) → AreBehind cut ids → index_in cut id.creator < id.index → names ids id ≡ false
+pub new-beyond : (cut ids : List ActionId) (id : ActionId) → AreBehind cut ids → index_in cut id.creator < id.index → has_name ids id ≡ false
 new-beyond cut [] id behind beyond = refl
-new-beyond cut (x ∷ ids) id behind beyond = or_from (same_id id x) (names ids id) (elim (cases_Bool (same_id id x)) [
+new-beyond cut (x ∷ ids) id behind beyond = or_from (same_id id x) (has_name ids id) (elim (cases_Bool (same_id id x)) [
   | inl same ↦ absurd (
       let is : id ≡ x = same_id-is id x same in
       let low : id.index ≤ index_in cut id.creator = subst (λ (y : ActionId). y.index ≤ index_in cut y.creator) (sym is) behind.0 in
@@ -50,7 +50,7 @@ new-beyond cut (x ∷ ids) id behind beyond = or_from (same_id id x) (names ids 
   | inr apart ↦ apart
 ]) (new-beyond cut ids id behind.1 beyond)
 
-stands-in : (ids rest : List ActionId) (id x : ActionId) → same_id x id ≡ true → names (ids ++ id ∷ rest) x ≡ true
+stands-in : (ids rest : List ActionId) (id x : ActionId) → same_id x id ≡ true → has_name (ids ++ id ∷ rest) x ≡ true
 stands-in [] rest id x same = rw same refl
 stands-in (y ∷ ids) rest id x same = elim (cases_Bool (same_id x y)) [
   | inl here ↦ rw here refl
@@ -58,11 +58,11 @@ stands-in (y ∷ ids) rest id x same = elim (cases_Bool (same_id x y)) [
 ]
 
 -- a name that stands before itself stands twice
-pub not_distinct : (ids rest : List ActionId) (id : ActionId) → names ids id ≡ true → is_distinct (ids ++ id ∷ rest) ≡ false
+pub not_distinct : (ids rest : List ActionId) (id : ActionId) → has_name ids id ≡ true → is_distinct (ids ++ id ∷ rest) ≡ false
 not_distinct [] rest id known = absurd (let clash : false ≡ true = known in cc)
 not_distinct (x ∷ ids) rest id known = elim (cases_Bool (same_id id x)) [
   | inl here ↦ rw (stands-in ids rest id x (same_id-back id x here)) refl
-  | inr other ↦ none (not (names (ids ++ id ∷ rest) x)) (is_distinct (ids ++ id ∷ rest)) (not_distinct ids rest id (rw other at known))
+  | inr other ↦ none (not (has_name (ids ++ id ∷ rest) x)) (is_distinct (ids ++ id ∷ rest)) (not_distinct ids rest id (rw other at known))
 ]
   where
     none : (a b : Bool) → b ≡ false → (a && b) ≡ false

@@ -3,7 +3,7 @@ use Rattle.std.proofs.Common.{◌≡◌, ℕ, zero, suc, ◌+◌, ◌-◌, ◌<�
 use Rattle.std.specs.Prelude.{slice_get}
 use Rattle.std.proofs.lemmas.List.{map-append}
 use Rattle.cg_base.specs.declared.action_id.ActionId.{ActionId}
-use Rattle.cg_base.specs.Ids.{names}
+use Rattle.cg_base.specs.Ids.{has_name}
 use Rattle.cg_base.specs.IdLaws.{same_name}
 use Rattle.cg_base.specs.Lists.{count_up}
 use Rattle.cg_base.specs.Cuts.{index_in}
@@ -18,7 +18,7 @@ use Rattle.cg_queue.proofs.Soundness.{drop-end, reds-step}
 
 -- those of the names that aren't yellow
 abbrev pub plain : List ActionId → List ActionId → List ActionId
-plain yellow ids = filter (λ id. not (names yellow id)) ids
+plain yellow ids = filter (λ id. not (has_name yellow id)) ids
 
 -- ---- no name is yellow
 
@@ -59,7 +59,7 @@ reds-none lanes (suc count) slot none =
 
 -- ---- some are
 
-plain-first : (yellow : List ActionId) (id : ActionId) (ids : List ActionId) (flag : Bool) → flag ≡ names yellow id → plain yellow (id ∷ ids) ≡ unless flag id ++ plain yellow ids
+plain-first : (yellow : List ActionId) (id : ActionId) (ids : List ActionId) (flag : Bool) → flag ≡ has_name yellow id → plain yellow (id ∷ ids) ≡ unless flag id ++ plain yellow ids
 plain-first yellow id ids true is = rw (← is)
 plain-first yellow id ids false is = rw (← is)
 
@@ -111,4 +111,4 @@ plain-step yellow lanes slot lt =
     let rest = reds_from lanes (32 - suc slot) (suc slot) in
     ap (λ xs. plain yellow (names_of xs)) (reds-step lanes slot lt)
     ∙ ap (plain yellow) (map-append name (actions_in (lanes slot)) rest)
-    ∙ filter-join (λ id. not (names yellow id)) (names_of (actions_in (lanes slot))) (names_of rest)
+    ∙ filter-join (λ id. not (has_name yellow id)) (names_of (actions_in (lanes slot))) (names_of rest)

@@ -2,7 +2,7 @@
 use Rattle.std.proofs.Common.{◌≡◌, ℕ, zero, suc, ◌+◌, ◌<◌, ◌≤◌, ◌≢◌, ◌⊎◌, ◌||◌, List, [], ◌∷◌, ◌++◌, length, drop, Bool, not, true, false, refl, sym, ap, ◌∙◌, arith, inl, inr, append_assoc}
 use Rattle.std.proofs.lemmas.Bool.{cases_eq, cases_Bool, eq-eqb, ne_eqb, lt-ltb, le-ltb, or_cases}
 use Rattle.cg_base.specs.declared.action_id.ActionId.{ActionId}
-use Rattle.cg_base.specs.Ids.{same_id, id_before, names}
+use Rattle.cg_base.specs.Ids.{same_id, id_before, has_name}
 use Rattle.cg_action.specs.declared.action.Action.{Action}
 use Rattle.cg_queue.specs.declared.red.Red.{Red}
 use Rattle.cg_queue.specs.Lanes.{with_lane}
@@ -149,12 +149,12 @@ pub record IsNamed (lanes : ℕ → List Red) (low : ℕ → ℕ) (id : ActionId
   pub above : low slot ≤ id.index
   pub below : id.index < low slot + length (lanes slot)
 
-names-join : (xs ys : List Action) (id : ActionId) → names (names_of (xs ++ ys)) id ≡ true → (names (names_of xs) id ≡ true) ⊎ (names (names_of ys) id ≡ true)
+names-join : (xs ys : List Action) (id : ActionId) → has_name (names_of (xs ++ ys)) id ≡ true → (has_name (names_of xs) id ≡ true) ⊎ (has_name (names_of ys) id ≡ true)
 names-join [] ys id there = inr there
-names-join (x ∷ xs) ys id there = elim (or_cases (same_id id x.id) (names (names_of (xs ++ ys)) id) there) [
+names-join (x ∷ xs) ys id there = elim (or_cases (same_id id x.id) (has_name (names_of (xs ++ ys)) id) there) [
   | inl own ↦ inl (rw own)
   | inr later ↦ elim (names-join xs ys id later) [
-    | inl here ↦ inl (or_second (same_id id x.id) (names (names_of xs) id) here)
+    | inl here ↦ inl (or_second (same_id id x.id) (has_name (names_of xs) id) here)
     | inr behind ↦ inr behind
   ]
 ]
@@ -166,7 +166,7 @@ names-join (x ∷ xs) ys id there = elim (or_cases (same_id id x.id) (names (nam
 never : false ≡ true → ⊥
 never e = cc
 
-names-stretch : (reds : List Red) (id : ActionId) (c from : ℕ) → Stretch c from reds → names (names_of (actions_in reds)) id ≡ true → (id.creator ≡ c) × (from ≤ id.index) × (id.index < from + length reds)
+names-stretch : (reds : List Red) (id : ActionId) (c from : ℕ) → Stretch c from reds → has_name (names_of (actions_in reds)) id ≡ true → (id.creator ≡ c) × (from ≤ id.index) × (id.index < from + length reds)
 names-stretch [] id c from stretch there = absurd (never there)
 names-stretch (r ∷ reds) id c from stretch there =
     let creator : r.action.id.creator ≡ c = stretch.0 in
@@ -186,7 +186,7 @@ names-stretch (r ∷ reds) id c from stretch there =
     ]
 
 module _ (lanes : ℕ → List Red) (low : ℕ → ℕ) (stretches : (k : ℕ) → k < 32 → Stretch (suc k) (low k) (lanes k)) where
-  named-from : (count first : ℕ) (id : ActionId) → first + count ≤ 32 → names (names_of (reds_from lanes count first)) id ≡ true → IsNamed lanes low id
+  named-from : (count first : ℕ) (id : ActionId) → first + count ≤ 32 → has_name (names_of (reds_from lanes count first)) id ≡ true → IsNamed lanes low id
   unfolding reds_from
   named-from zero first id within there = absurd (never there)
   named-from (suc count) first id within there = elim (names-join (actions_in (lanes first)) (reds_from lanes count (suc first)) id there) [
@@ -196,7 +196,7 @@ module _ (lanes : ℕ → List Red) (low : ℕ → ℕ) (stretches : (k : ℕ) �
     | inr later ↦ named-from count (suc first) id (omega arith) later
   ]
 
-  pub is_named : (id : ActionId) → names (names_of (all_reds lanes)) id ≡ true → IsNamed lanes low id
+  pub is_named : (id : ActionId) → has_name (names_of (all_reds lanes)) id ≡ true → IsNamed lanes low id
   unfolding all_reds
   is_named id there = named-from 32 0 id (omega arith) there
 
@@ -206,28 +206,28 @@ or_second : (a b : Bool) → b ≡ true → (a || b) ≡ true
 or_second true b e = refl
 or_second false b e = e
 
-names-row : (reds : List Red) (id : ActionId) (c from i : ℕ) → Stretch c from reds → id.creator ≡ c → id.index ≡ from + i → i < length reds → names (names_of (actions_in reds)) id ≡ true
+names-row : (reds : List Red) (id : ActionId) (c from i : ℕ) → Stretch c from reds → id.creator ≡ c → id.index ≡ from + i → i < length reds → has_name (names_of (actions_in reds)) id ≡ true
 names-row [] id c from i stretch creator index lt = absurd (omega arith)
 names-row (r ∷ reds) id c from zero stretch creator index lt =
     let own : r.action.id.index ≡ from = stretch.1 in
     rw (same_id-true id r.action.id (creator ∙ sym stretch.0) (omega arith))
 names-row (r ∷ reds) id c from (suc i) stretch creator index lt =
-    or_second (same_id id r.action.id) (names (names_of (actions_in reds)) id) (names-row reds id c (suc from) i stretch.2 creator (omega arith) (omega arith))
+    or_second (same_id id r.action.id) (has_name (names_of (actions_in reds)) id) (names-row reds id c (suc from) i stretch.2 creator (omega arith) (omega arith))
 
-names-left : (xs ys : List Action) (id : ActionId) → names (names_of xs) id ≡ true → names (names_of (xs ++ ys)) id ≡ true
+names-left : (xs ys : List Action) (id : ActionId) → has_name (names_of xs) id ≡ true → has_name (names_of (xs ++ ys)) id ≡ true
 names-left [] ys id there = absurd (never there)
 names-left (x ∷ xs) ys id there = elim (cases_Bool (same_id id x.id)) [
   | inl own ↦ rw own
   | inr other ↦ rw other (names-left xs ys id (rw other at there))
 ]
 
-names-right : (xs ys : List Action) (id : ActionId) → names (names_of ys) id ≡ true → names (names_of (xs ++ ys)) id ≡ true
+names-right : (xs ys : List Action) (id : ActionId) → has_name (names_of ys) id ≡ true → has_name (names_of (xs ++ ys)) id ≡ true
 names-right [] ys id there = there
-names-right (x ∷ xs) ys id there = or_second (same_id id x.id) (names (names_of (xs ++ ys)) id) (names-right xs ys id there)
+names-right (x ∷ xs) ys id there = or_second (same_id id x.id) (has_name (names_of (xs ++ ys)) id) (names-right xs ys id there)
 
 module _ (lanes : ℕ → List Red) (low : ℕ → ℕ) (stretches : (k : ℕ) → k < 32 → Stretch (suc k) (low k) (lanes k)) where
   names-from : (count first slot i : ℕ) (id : ActionId) → first + count ≤ 32 → first ≤ slot → slot < first + count → id.creator ≡ suc slot → id.index ≡ low slot + i → i < length (lanes slot)
-      → names (names_of (reds_from lanes count first)) id ≡ true
+      → has_name (names_of (reds_from lanes count first)) id ≡ true
   unfolding reds_from
   names-from zero first slot i id within le lt creator index inside = absurd (omega arith)
   names-from (suc count) first slot i id within le lt creator index inside = elim (cases_eq first slot) [
@@ -240,6 +240,6 @@ module _ (lanes : ℕ → List Red) (low : ℕ → ℕ) (stretches : (k : ℕ) �
         names-right (actions_in (lanes first)) (reds_from lanes count (suc first)) id (names-from count (suc first) slot i id (omega arith) (omega arith) (omega arith) creator index inside)
   ]
 
-  pub names-all : (slot i : ℕ) (id : ActionId) → slot < 32 → id.creator ≡ suc slot → id.index ≡ low slot + i → i < length (lanes slot) → names (names_of (all_reds lanes)) id ≡ true
+  pub names-all : (slot i : ℕ) (id : ActionId) → slot < 32 → id.creator ≡ suc slot → id.index ≡ low slot + i → i < length (lanes slot) → has_name (names_of (all_reds lanes)) id ≡ true
   unfolding all_reds
   names-all slot i id lt creator index inside = names-from 32 0 slot i id (omega arith) (omega arith) (omega arith) creator index inside

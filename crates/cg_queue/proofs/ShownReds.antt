@@ -3,7 +3,7 @@ use Rattle.std.proofs.Common.{◌≡◌, suc, ◌+◌, ◌-◌, ◌<◌, ◌≤�
 use Rattle.std.specs.Prelude.{◌==◌}
 use Rattle.std.proofs.lemmas.Bool.{or_cases, and_parts, eqb-true, ltb-true}
 use Rattle.cg_base.specs.declared.action_id.ActionId.{ActionId}
-use Rattle.cg_base.specs.Ids.{same_id, names}
+use Rattle.cg_base.specs.Ids.{same_id, has_name}
 use Rattle.cg_base.specs.Sets.{IsId}
 use Rattle.cg_base.specs.Cuts.{index_in}
 use Rattle.cg_queue.specs.Queue.{names_of}
@@ -15,7 +15,7 @@ use Rattle.cg_queue.proofs.AscendingReds.{rows-ascend}
 use Rattle.cg_queue.proofs.Soundness.{low_of, stretches_of, has_lane}
 
 module _ (b : Parts) (sound : IsSound b) (id : ActionId) where
-  between_from_red : names (names_of (all_reds b.reds)) id ≡ true → IsBetween b.green_cut b.red_cut id
+  between_from_red : has_name (names_of (all_reds b.reds)) id ≡ true → IsBetween b.green_cut b.red_cut id
   between_from_red there =
       let found = is_named b.reds (low_of b) (stretches_of b sound) id there in
       let within : found.slot < 32 = found.within in
@@ -27,7 +27,7 @@ module _ (b : Parts) (sound : IsSound b) (id : ActionId) where
       let last : index_in b.green_cut (suc found.slot) + length (b.reds found.slot) ≡ index_in b.red_cut (suc found.slot) = (sound.lanes found.slot within).last in
       ((omega arith, omega arith), omega arith, omega arith)
 
-  red_from_between : IsBetween b.green_cut b.red_cut id → names (names_of (all_reds b.reds)) id ≡ true
+  red_from_between : IsBetween b.green_cut b.red_cut id → has_name (names_of (all_reds b.reds)) id ≡ true
   red_from_between (is_id, above, below) =
       let own = has_lane id is_id in
       let low : index_in b.green_cut (suc (lane_of id)) ≡ index_in b.green_cut id.creator = ap (index_in b.green_cut) own.creator in
@@ -37,10 +37,10 @@ module _ (b : Parts) (sound : IsSound b) (id : ActionId) where
 
 -- ---- a yellow name that isn't green
 
-yellow_first : (low high : List ActionId) (x id : ActionId) (ids : List ActionId) → (names (filter (is_above low) ids) id ≡ true → IsBetween low high id)
+yellow_first : (low high : List ActionId) (x id : ActionId) (ids : List ActionId) → (has_name (filter (is_above low) ids) id ≡ true → IsBetween low high id)
     → x.index ≤ index_in high x.creator → IsId x.creator → (flag : Bool) → is_above low x ≡ flag
-    → names (cond flag (x ∷ filter (is_above low) ids) (filter (is_above low) ids)) id ≡ true → IsBetween low high id
-yellow_first low high x id ids rest known is_id true above there = elim (or_cases (same_id id x) (names (filter (is_above low) ids) id) there) [
+    → has_name (cond flag (x ∷ filter (is_above low) ids) (filter (is_above low) ids)) id ≡ true → IsBetween low high id
+yellow_first low high x id ids rest known is_id true above there = elim (or_cases (same_id id x) (has_name (filter (is_above low) ids) id) there) [
   | inl same ↦
       let parts = and_parts (id.creator == x.creator) (id.index == x.index) same in
       let creator : id.creator ≡ x.creator = eqb-true id.creator x.creator parts.0 in
@@ -53,7 +53,7 @@ yellow_first low high x id ids rest known is_id true above there = elim (or_case
 ]
 yellow_first low high x id ids rest known is_id false above there = rest there
 
-yellow_between : (low high ids : List ActionId) (id : ActionId) → AreKnown high ids → names (filter (is_above low) ids) id ≡ true → IsBetween low high id
+yellow_between : (low high ids : List ActionId) (id : ActionId) → AreKnown high ids → has_name (filter (is_above low) ids) id ≡ true → IsBetween low high id
 yellow_between low high [] id are there = absurd cc
 yellow_between low high (x ∷ ids) id are there =
     yellow_first low high x id ids (yellow_between low high ids id are.2) are.0 are.1 (is_above low x) refl there

@@ -3,7 +3,7 @@ use Rattle.std.proofs.Common.{◌≡◌, ℕ, zero, suc, ◌+◌, ◌-◌, ◌^�
 use Rattle.std.specs.Prelude.{slice_get, Result, Ok, Err, OnOk}
 use Rattle.std.proofs.lemmas.Bool.{cases_eq, eq-eqb, ne_eqb}
 use Rattle.cg_base.specs.declared.action_id.ActionId.{ActionId}
-use Rattle.cg_base.specs.Ids.{same_id, names}
+use Rattle.cg_base.specs.Ids.{same_id, has_name}
 use Rattle.cg_base.specs.Sets.{IsId}
 use Rattle.cg_base.specs.Cuts.{index_in, raise}
 use Rattle.cg_base.specs.CutLimits.{IsCut}
@@ -57,7 +57,7 @@ module _ (b : Parts) (a : Action) (sound : IsSound b) (is_id : IsId a.id.creator
             let index : a.id.index ≡ suc (index_in b.red_cut (suc k)) = next ∙ ap (λ c. suc (index_in b.red_cut c)) (sym is_creator) in
             let top : index_in (raise b.red_cut a.id) (suc k) ≡ max (index_in b.red_cut (suc k)) a.id.index = raise-same b.red_cut a.id sound.red (suc k) (sym is_creator) in
             let long = length-more (b.reds k) (record { action = a; is_yellow = false }) in
-            let unknown : names b.yellow a.id ≡ false = names-unknown b.red_cut b.yellow a.id sound.yellow (omega arith) in
+            let unknown : has_name b.yellow a.id ≡ false = names-unknown b.red_cut b.yellow a.id sound.yellow (omega arith) in
             record {
               first = lane.first;
               greens = lane.greens;
@@ -140,7 +140,7 @@ module _ (b : Parts) (id : ActionId) (sound : IsSound b) (slot i : ℕ) (within 
             }
       ]
 
-  pub yellow-sound : names b.yellow id ≡ false → IsSound (flagged (with_name b id) slot i)
+  pub yellow-sound : has_name b.yellow id ≡ false → IsSound (flagged (with_name b id) slot i)
   yellow-sound new =
       let lane = sound.lanes slot within in
       let last = lane.last in
@@ -170,13 +170,13 @@ module _ (b : Parts) (id : ActionId) (sound : IsSound b) (slot i : ℕ) (within 
 
 -- the flag of an action that has the name
 flag-named : (yellow : List ActionId) (id : ActionId) (c from : ℕ) (reds : List Red) (i : ℕ) → Stretch c from reds → Flagged yellow reds → id.creator ≡ c → id.index ≡ from + i → i < length reds
-    → flag_of (slice_get reds i) ≡ names yellow id
+    → flag_of (slice_get reds i) ≡ has_name yellow id
 flag-named yellow id c from [] i stretch flags creator index lt = absurd (omega arith)
 flag-named yellow id c from (r ∷ reds) zero stretch flags creator index lt =
     let creators : r.action.id.creator ≡ id.creator = stretch.0 ∙ sym creator in
     let indexes : r.action.id.index ≡ id.index = let own : r.action.id.index ≡ from = stretch.1 in omega arith in
     let same : r.action.id ≡ id = λ j. record { creator = creators j; index = indexes j } in
-    flags.0 ∙ ap (names yellow) same
+    flags.0 ∙ ap (has_name yellow) same
 flag-named yellow id c from (r ∷ reds) (suc i) stretch flags creator index lt = flag-named yellow id c (suc from) reds i stretch.2 flags.1 creator (omega arith) (omega arith)
 
 module _ (b : Parts) (id : ActionId) (sound : IsSound b) (is_id : IsId id.creator) (above : index_in b.green_cut id.creator < id.index) (known : id.index ≤ index_in b.red_cut id.creator) where
@@ -197,14 +197,14 @@ module _ (b : Parts) (id : ActionId) (sound : IsSound b) (is_id : IsId id.creato
       let red : index_in b.red_cut (suc (lane_of id)) ≡ index_in b.red_cut id.creator = ap (index_in b.red_cut) own.creator in
       omega arith
 
-  pub red-flag : flag_of (slice_get (b.reds (lane_of id)) red_place) ≡ names (filter (is_above b.green_cut) b.yellow) id
+  pub red-flag : flag_of (slice_get (b.reds (lane_of id)) red_place) ≡ has_name (filter (is_above b.green_cut) b.yellow) id
   red-flag =
       let own = has_lane id is_id in
       let lane = sound.lanes (lane_of id) own.within in
       flag-named b.yellow id (suc (lane_of id)) (low_of b (lane_of id)) (b.reds (lane_of id)) red_place lane.reds lane.flags (sym own.creator) red-at red-inside
       ∙ sym (names-above b.green_cut b.yellow id (is_above-true b.green_cut id above))
 
-  pub red-named-sound : names (filter (is_above b.green_cut) b.yellow) id ≡ false → IsSound (flagged (with_name b id) (lane_of id) red_place)
+  pub red-named-sound : has_name (filter (is_above b.green_cut) b.yellow) id ≡ false → IsSound (flagged (with_name b id) (lane_of id) red_place)
   red-named-sound new =
       let own = has_lane id is_id in
       yellow-sound b id sound (lane_of id) red_place own.within (sym own.creator) red-at red-inside (sym (names-above b.green_cut b.yellow id (is_above-true b.green_cut id above)) ∙ new)
@@ -251,7 +251,7 @@ module _ (b : Parts) (a : Action) (sound : IsSound b) (is_id : IsId a.id.creator
       rw (red-seen b a sound is_id small next true, yellow-names (added_red b a false) a.id (red-sound b a sound is_id small next) (lane_of a.id) both-row own.within (sym own.creator) (red-index b a sound is_id small next) both-inside)
 
   -- its name is a new one
-  pub both-unknown : names (filter (is_above b.green_cut) b.yellow) a.id ≡ false
+  pub both-unknown : has_name (filter (is_above b.green_cut) b.yellow) a.id ≡ false
   both-unknown = names-unknown b.red_cut (filter (is_above b.green_cut) b.yellow) a.id (AreKnown-filter b.red_cut (is_above b.green_cut) b.yellow sound.yellow) (omega arith)
 
   pub both-above : index_in b.green_cut a.id.creator < a.id.index

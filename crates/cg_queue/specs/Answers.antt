@@ -1,7 +1,7 @@
 -- What the calls of a queue answer.
 use Rattle.std.specs.Prelude.{◌≡◌, ℕ, nat_le, true, List, [], ◌∷◌, Result, Ok, Err, if◌then◌else◌}
 use Rattle.cg_base.specs.declared.action_id.ActionId.{ActionId}
-use Rattle.cg_base.specs.Ids.{names}
+use Rattle.cg_base.specs.Ids.{has_name}
 use Rattle.cg_action.specs.declared.action.Action.{Action}
 use Rattle.cg_queue.specs.declared.mark.Mark.{Mark}
 use Rattle.cg_queue.specs.declared.mark.Mark.TheVariants.{Placed, Known}
@@ -22,4 +22,4 @@ Answers marking old new (Err NoMemory) = new ≡ old
 -- each name is one of a red action
 abbrev pub AreReds : QueueView → List ActionId → Type 0
 AreReds q [] = Unit {0}
-AreReds q (id ∷ ids) = (names (names_of q.reds) id ≡ true) × AreReds q ids
+AreReds q (id ∷ ids) = (has_name (names_of q.reds) id ≡ true) × AreReds q ids

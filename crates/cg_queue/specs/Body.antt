@@ -2,7 +2,7 @@
 use Rattle.std.specs.Prelude.{◌≡◌, ℕ, zero, suc, ◌+◌, ◌-◌, ◌≤◌, ◌<◌, ◌==◌, nat_lt, Bool, true, false, List, [], ◌∷◌, ◌++◌, length, Option, Some, None, filter, fold, drop, map, if◌then◌else◌}
 use Rattle.cg_base.specs.declared.limits.TheConstants.{COUNT_LIMIT}
 use Rattle.cg_base.specs.declared.action_id.ActionId.{ActionId}
-use Rattle.cg_base.specs.Ids.{names}
+use Rattle.cg_base.specs.Ids.{has_name}
 use Rattle.cg_base.specs.Sets.{IsId}
 use Rattle.cg_base.specs.Cuts.{index_in, raise}
 use Rattle.cg_base.specs.CutLimits.{IsCut}
@@ -101,7 +101,7 @@ positions_of creator position (a ∷ greens) =
 -- each flag says whether the action's name is in the list
 abbrev pub Flagged : List ActionId → List Red → Type 0
 Flagged yellow [] = Unit {0}
-Flagged yellow (r ∷ reds) = (r.is_yellow ≡ names yellow r.action.id) × Flagged yellow reds
+Flagged yellow (r ∷ reds) = (r.is_yellow ≡ has_name yellow r.action.id) × Flagged yellow reds
 
 -- the flag of an action, on where there is none
 abbrev pub flag_of : Option Red → Bool

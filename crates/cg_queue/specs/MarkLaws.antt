@@ -3,7 +3,7 @@ use Rattle.std.proofs.Common.{◌≡◌, ℕ, suc, ◌<◌, ◌≤◌, List, [],
 use Rattle.std.specs.Prelude.{nat_lt, cond, not, ◌&&◌}
 use Rattle.std.proofs.lemmas.Bool.{eq-eqb, ne_eqb, le-leb, lt-leb, lt-ltb}
 use Rattle.cg_base.specs.declared.action_id.ActionId.{ActionId}
-use Rattle.cg_base.specs.Ids.{names}
+use Rattle.cg_base.specs.Ids.{has_name}
 use Rattle.cg_base.specs.Cuts.{index_in}
 use Rattle.cg_action.specs.declared.action.Action.{Action}
 use Rattle.cg_queue.specs.declared.mark.Mark.TheVariants.{Placed, Known}
@@ -38,12 +38,12 @@ red-gap q a gt = rw (
 
 -- a name that is red and not yellow comes to the end of the list
 pub yellow-added : (q : QueueView) (id : ActionId) → index_in q.green_cut id.creator < id.index →
-    names q.yellow id ≡ false → with_yellow q id ≡ record q { yellow = q.yellow ++ id ∷ [] }
+    has_name q.yellow id ≡ false → with_yellow q id ≡ record q { yellow = q.yellow ++ id ∷ [] }
 yellow-added q id above none = rw (is_above-true q.green_cut id above, none)
 
-pub yellow-kept : (q : QueueView) (id : ActionId) → names q.yellow id ≡ true → with_yellow q id ≡ q
+pub yellow-kept : (q : QueueView) (id : ActionId) → has_name q.yellow id ≡ true → with_yellow q id ≡ q
 yellow-kept q id there = go (nat_lt (index_in q.green_cut id.creator) id.index)
   where
-    go : (b : Bool) → cond (b && not (names q.yellow id)) (record q { yellow = q.yellow ++ id ∷ [] }) q ≡ q
+    go : (b : Bool) → cond (b && not (has_name q.yellow id)) (record q { yellow = q.yellow ++ id ∷ [] }) q ≡ q
     go true = rw there
     go false = refl

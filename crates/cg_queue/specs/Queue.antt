@@ -1,7 +1,7 @@
 -- The actions that a replica knows, and what a mark makes of them.
 use Rattle.std.specs.Prelude.{ℕ, suc, ◌+◌, ◌-◌, ◌==◌, nat_lt, nat_le, not, ◌&&◌, List, [], ◌∷◌, ◌++◌, length, filter, find, drop, map, Option, if◌then◌else◌}
 use Rattle.cg_base.specs.declared.action_id.ActionId.{ActionId}
-use Rattle.cg_base.specs.Ids.{same_id, id_before, names}
+use Rattle.cg_base.specs.Ids.{same_id, id_before, has_name}
 use Rattle.cg_base.specs.Cuts.{index_in, raise}
 use Rattle.cg_action.specs.declared.action.Action.{Action}
 use Rattle.cg_queue.specs.declared.mark.Mark.{Mark}
@@ -57,7 +57,7 @@ marked_red q a =
 -- a name comes to the end of the yellow list, where its action is neither green nor yellow
 abbrev pub with_yellow : QueueView → ActionId → QueueView
 with_yellow q id =
-    if nat_lt (index_in q.green_cut id.creator) id.index && not (names q.yellow id)
+    if nat_lt (index_in q.green_cut id.creator) id.index && not (has_name q.yellow id)
     then record q { yellow = q.yellow ++ id ∷ [] } else q
 
 abbrev pub and_yellow : ActionId → Marking → Marking

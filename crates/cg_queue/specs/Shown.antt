@@ -1,7 +1,7 @@
 -- What a queue shows at every time.
 use Rattle.std.specs.Prelude.{◌≡◌, ℕ, ◌<◌, ◌≤◌, ◌↔◌, true, List, [], ◌∷◌}
 use Rattle.cg_base.specs.declared.action_id.ActionId.{ActionId}
-use Rattle.cg_base.specs.Ids.{names, id_before}
+use Rattle.cg_base.specs.Ids.{has_name, id_before}
 use Rattle.cg_base.specs.Sets.{IsId}
 use Rattle.cg_base.specs.Cuts.{index_in}
 use Rattle.cg_base.specs.CutLimits.{IsCut}
@@ -35,6 +35,6 @@ pub record IsShown (q : QueueView) : Type 0 where
   pub cuts : (p : ℕ) → IsId p → index_in q.green_cut p ≤ index_in q.red_cut p
   pub greens : (p : ℕ) → IsId p → LeadUp q p
   pub ascend : NamesAscend (names_of q.reds)
-  pub reds : (id : ActionId) → (names (names_of q.reds) id ≡ true) ↔ IsBetween q.green_cut q.red_cut id
-  pub yellow : (id : ActionId) → names q.yellow id ≡ true → names (names_of q.reds) id ≡ true
+  pub reds : (id : ActionId) → (has_name (names_of q.reds) id ≡ true) ↔ IsBetween q.green_cut q.red_cut id
+  pub yellow : (id : ActionId) → has_name q.yellow id ≡ true → has_name (names_of q.reds) id ≡ true
   pub distinct : is_distinct q.yellow ≡ true

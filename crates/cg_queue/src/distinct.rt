@@ -1,6 +1,6 @@
 //! Lists of names in which none stands twice.
 ghost use Rattle.std.specs.Prelude.{◌≡◌};
-ghost use Rattle.cg_base.specs.Ids.{names};
+ghost use Rattle.cg_base.specs.Ids.{has_name};
 ghost use Rattle.cg_queue.specs.Distinct.{is_distinct};
 
 use cg_base::{ActionId, Cut};
@@ -21,7 +21,7 @@ pub fn is_distinct(ids: &[ActionId]) -> bool
 }
 
 fn has_name(ids: &[ActionId], id: &ActionId) -> bool
-    ensures { result ≡ names ids.now id.now }
+    ensures { result ≡ has_name ids.now id.now }
 {
     ids.iter().any(|other| *id == *other)
 }

@@ -5,7 +5,7 @@ ghost use Rattle.cg_base.specs.Cuts.{index_in};
 ghost use Rattle.cg_base.specs.Lists.{at_place};
 ghost use Rattle.cg_queue.specs.Lanes.{rows_of};
 ghost use Rattle.cg_queue.specs.Body.{parts_of, seen, actions_in, all_reds, flag_of, unless, IsLane};
-ghost use Rattle.cg_base.specs.Ids.{names};
+ghost use Rattle.cg_base.specs.Ids.{has_name};
 ghost use Rattle.cg_queue.specs.Queue.{names_of};
 
 use crate::body::{
@@ -249,7 +249,7 @@ impl Queue {
     /// The names of the reds that aren't yellow, in the same order. Where no name is yellow its time doesn't depend on
     /// how many reds there are.
     pub fn plain_red_names(&self) -> Result<IdRuns, NoMemory>
-        ensures { IfOk result (λ ids. ids ≡ filter (λ id. not (names self.now.yellow id)) (names_of self.now.reds)) }
+        ensures { IfOk result (λ ids. ids ≡ filter (λ id. not (has_name self.now.yellow id)) (names_of self.now.reds)) }
     {
         let mut ids = IdRuns::new(self.alloc);
         let used = self.body.reds.used();
@@ -311,7 +311,7 @@ impl Queue {
 
     /// The name is one of a red action.
     pub fn is_red(&self, id: ActionId) -> bool
-        ensures { result ≡ names (names_of self.now.reds) id }
+        ensures { result ≡ has_name (names_of self.now.reds) id }
     {
         let slot = lane_of(&id);
         let cut = self.body.green_cut.get(id.creator);
@@ -324,7 +324,7 @@ impl Queue {
 
     /// The name is one of a yellow action. It is found at once.
     pub fn is_yellow(&self, id: ActionId) -> bool
-        ensures { result ≡ names self.now.yellow id }
+        ensures { result ≡ has_name self.now.yellow id }
     {
         let known = self.body.red_cut.get(id.creator);
         if known < id.index {
@@ -459,7 +459,7 @@ fn add_plain_names(body: &Body, slot: usize, ids: &mut IdRuns) -> Result<(), NoM
     requires slot { slot < 32 }
     requires lane { IsLane (parts_of body.now) slot }
     ensures { OnOk result (ids.new ≡ ids.old
-        ++ filter (λ id. not (names (seen (parts_of body.now)).yellow id))
+        ++ filter (λ id. not (has_name (seen (parts_of body.now)).yellow id))
         (names_of (actions_in (rows_of body.now.reds slot)))) }
 {
     let creator = ReplicaId::known(slot as u8 + 1);

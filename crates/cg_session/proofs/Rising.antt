@@ -2,7 +2,7 @@
 use Rattle.std.proofs.Common.{◌≡◌, ℕ, ◌≤◌, ltb, Bool, true, false, cond, [], ◌∷◌, ◌++◌, Result, Ok, Err, refl, sym, ap, arith}
 use Rattle.std.proofs.lemmas.Bool.{and_parts, ltb-true, ltb-false}
 use Rattle.cg_base.specs.declared.action_id.ActionId.{ActionId}
-use Rattle.cg_base.specs.Ids.{names}
+use Rattle.cg_base.specs.Ids.{has_name}
 use Rattle.cg_session.specs.declared.token.Behind.{Behind}
 use Rattle.cg_session.specs.Laws.{NeverFalls}
 use Rattle.cg_session.specs.Token.{Token, wrote, read, raises, replied}
@@ -25,7 +25,7 @@ reads old new pos = by (ltb pos old.position) refl where
       (ltb-false pos old.position less, ap (λ (t : Token). t.position) (sym is))
 
 writes : (t : Token) (id : ActionId) → (wrote t id).position ≡ t.position
-writes t id = by (names t.written id) where
+writes t id = by (has_name t.written id) where
   by : (b : Bool) → (cond b t (record t { written = t.written ++ id ∷ [] })).position ≡ t.position
   by true = refl
   by false = refl
@@ -38,11 +38,11 @@ replies : (t : Token) (id : ActionId) (place : ℕ) → t.position ≤ (replied 
 replies t id place = by (raises t id place) refl where
   by : (b : Bool) → raises t id place ≡ b → t.position ≤ (raised b t place).position
   by true e =
-      let above = ltb-true t.position place (and_parts (names t.written id) (ltb t.position place) e).1 in
+      let above = ltb-true t.position place (and_parts (has_name t.written id) (ltb t.position place) e).1 in
       omega arith
   by false e = omega arith
 
-own : (t : Token) (id : ActionId) (place : ℕ) → names t.written id ≡ true → place ≤ (replied t id place).position
+own : (t : Token) (id : ActionId) (place : ℕ) → has_name t.written id ≡ true → place ≤ (replied t id place).position
 own t id place is = by (ltb t.position place) refl where
   by : (b : Bool) → ltb t.position place ≡ b → place ≤ (replied t id place).position
   by true e = rw (is, e) (omega arith)

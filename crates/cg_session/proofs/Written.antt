@@ -4,7 +4,7 @@ use Rattle.std.specs.Prelude.{map, ◌||◌}
 use Rattle.std.specs.List.{list_any}
 use Rattle.indexmap.specs.IndexSet.{insert_key}
 use Rattle.cg_base.specs.declared.action_id.ActionId.{ActionId}
-use Rattle.cg_base.specs.Ids.{same_id, names}
+use Rattle.cg_base.specs.Ids.{same_id, has_name}
 use Rattle.cg_session.specs.declared.action_key.ActionKey.{ActionKey}
 use Rattle.cg_session.specs.contracts.action_key.ActionKeyPartialEq.TheImpl.{ghosts as action_key}
 use Rattle.cg_session.specs.ActionKey.{key_of, id_of}
@@ -15,7 +15,7 @@ abbrev pub seen : ℕ → List ActionKey → Token
 seen position keys = record { position = position; written = map id_of keys }
 
 pub found : (id : ActionId) (keys : List ActionKey) →
-    list_any (action_key.eq (key_of id)) keys ≡ names (map id_of keys) id
+    list_any (action_key.eq (key_of id)) keys ≡ has_name (map id_of keys) id
 found id [] = refl
 found id (key ∷ keys) = ap (λ b. same_id id (id_of key) || b) (found id keys)
 

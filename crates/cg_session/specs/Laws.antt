@@ -2,7 +2,7 @@
 use Rattle.std.specs.Prelude.{◌≡◌, ◌≤◌, ◌↔◌, ℕ, true, false, List, Some, Ok}
 use Rattle.std.specs.Str.{is_utf8}
 use Rattle.cg_base.specs.declared.action_id.ActionId.{ActionId}
-use Rattle.cg_base.specs.Ids.{names}
+use Rattle.cg_base.specs.Ids.{has_name}
 use Rattle.cg_base.specs.Sets.{IsId}
 use Rattle.cg_text.specs.Tokens.{tokens, is_passed_over}
 use Rattle.cg_schedule.specs.Limits.{IsQuery, IsUpdate}
@@ -38,4 +38,4 @@ pub record NeverFalls : Type 0 where
   pub reads : (old new : Token) (pos : ℕ) → read old pos ≡ Ok new → (old.position ≤ pos) × (new.position ≡ pos)
   pub writes : (t : Token) (id : ActionId) → (wrote t id).position ≡ t.position
   pub replies : (t : Token) (id : ActionId) (place : ℕ) → t.position ≤ (replied t id place).position
-  pub own : (t : Token) (id : ActionId) (place : ℕ) → names t.written id ≡ true → place ≤ (replied t id place).position
+  pub own : (t : Token) (id : ActionId) (place : ℕ) → has_name t.written id ≡ true → place ≤ (replied t id place).position

@@ -1,7 +1,7 @@
 -- What a session has seen: a position in the global order below which it reads nothing, and the actions that it wrote.
 use Rattle.std.specs.Prelude.{ℕ, nat_lt, Bool, ◌&&◌, List, [], ◌∷◌, ◌++◌, Result, Ok, Err, if◌then◌else◌}
 use Rattle.cg_base.specs.declared.action_id.ActionId.{ActionId}
-use Rattle.cg_base.specs.Ids.{names}
+use Rattle.cg_base.specs.Ids.{has_name}
 use Rattle.cg_session.specs.declared.token.Behind.{Behind}
 
 -- the position, and the names of the written actions, in the order of the writes
@@ -14,7 +14,7 @@ new_token = record { position = 0; written = [] }
 
 -- the action was written here; a name stands there once
 abbrev pub wrote : Token → ActionId → Token
-wrote t id = if names t.written id then t else record t { written = t.written ++ id ∷ [] }
+wrote t id = if has_name t.written id then t else record t { written = t.written ++ id ∷ [] }
 
 -- a state at this position is read, unless it is behind what was seen
 abbrev pub read : Token → ℕ → Result Token Behind
@@ -23,7 +23,7 @@ read t pos = if nat_lt pos t.position then Err (record { have = pos; want = t.po
 
 -- the reply to an action at this place raises the position: the action was written here, and its place is above
 abbrev pub raises : Token → ActionId → ℕ → Bool
-raises t id place = names t.written id && nat_lt t.position place
+raises t id place = has_name t.written id && nat_lt t.position place
 
 -- behind the reply to an action at this place
 abbrev pub replied : Token → ActionId → ℕ → Token

@@ -1,5 +1,5 @@
 ghost use Rattle.std.specs.Prelude.{◌≡◌, Ok, Err, IfErr, OnErr, OnOk};
-ghost use Rattle.cg_base.specs.Ids.{names};
+ghost use Rattle.cg_base.specs.Ids.{has_name};
 
 use crate::action_key::ActionKey;
 use cg_base::{ActionId, NoMemory};
@@ -102,7 +102,7 @@ impl Token {
     }
 
     fn has_written(&self, id: &ActionId) -> bool
-        ensures { result ≡ names self.now.written id.now }
+        ensures { result ≡ has_name self.now.written id.now }
     {
         self.written.contains(&ActionKey::of(id))
     }

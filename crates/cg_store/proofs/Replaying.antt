@@ -4,7 +4,7 @@ use Rattle.std.specs.Prelude.{option_and_then, slice_get}
 use Rattle.std.specs.List.{list_all}
 use Rattle.std.proofs.lemmas.Bool.{and_parts}
 use Rattle.cg_base.specs.declared.action_id.ActionId.{ActionId}
-use Rattle.cg_base.specs.Ids.{names, same_id}
+use Rattle.cg_base.specs.Ids.{has_name, same_id}
 use Rattle.cg_action.specs.declared.action.Action.{Action}
 use Rattle.cg_client.specs.Marks.{is_first}
 use Rattle.cg_queue.specs.Answers.{AreReds}
@@ -19,10 +19,10 @@ use Rattle.cg_disk_records.specs.KnownLaws.{none-all}
 pub stops : {A : Type 0} (go : Stored → A → Option Stored) (s : Stored) (a : A) (items : List A) (total : Option Stored) → go s a ≡ None → all_of go (Some s) (a ∷ items) ≡ total → total ≡ None
 stops go s a items total none all = sym all ∙ ap (λ now. all_of go now items) none ∙ none-all go items
 
-pub are_reds : (q : QueueView) (ids : List ActionId) → list_all (names (names_of q.reds)) ids ≡ true → AreReds q ids
+pub are_reds : (q : QueueView) (ids : List ActionId) → list_all (has_name (names_of q.reds)) ids ≡ true → AreReds q ids
 are_reds q [] all = tt
 are_reds q (id ∷ ids) all =
-    let parts = and_parts (names (names_of q.reds) id) (list_all (names (names_of q.reds)) ids) all in
+    let parts = and_parts (has_name (names_of q.reds) id) (list_all (has_name (names_of q.reds)) ids) all in
     (parts.0, are_reds q ids parts.1)
 
 -- the first own action

@@ -3,7 +3,7 @@ ghost use Rattle.std.specs.Prelude.{◌≡◌, ◌≢◌, ◌==◌, ◌&&◌, su
 ghost use Rattle.cg_client.specs.Replica.{created};
 ghost use Rattle.std.specs.List.{list_all};
 ghost use Rattle.cg_action.specs.ActionLimits.{IsAction};
-ghost use Rattle.cg_base.specs.Ids.{names};
+ghost use Rattle.cg_base.specs.Ids.{has_name};
 ghost use Rattle.cg_client.specs.Marks.{is_first};
 ghost use Rattle.cg_client.specs.Calls.{IsLineGreen};
 ghost use Rattle.cg_queue.specs.Queue.{names_of};
@@ -242,7 +242,7 @@ fn are_yellow(core: &Core, ids: &[ActionId]) -> bool
 }
 
 fn are_red(core: &Core, ids: &[ActionId]) -> bool
-    ensures { result ≡ list_all (names (names_of core.now.queue.reds)) ids.now }
+    ensures { result ≡ list_all (has_name (names_of core.now.queue.reds)) ids.now }
 {
     for id in ids {
         if !core.is_red(*id) {

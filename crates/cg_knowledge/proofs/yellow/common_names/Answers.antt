@@ -1,7 +1,7 @@
 use Rattle.std.proofs.Common.{◌≡◌, ◌∙◌, ap, not, take}
 use Rattle.std.proofs.lemmas.List.{take_all}
 use Rattle.std.specs.List.{filter, fold}
-use Rattle.cg_base.specs.Ids.{names}
+use Rattle.cg_base.specs.Ids.{has_name}
 use Rattle.cg_knowledge.specs.Primary.{knows_prim, newest_index, newest}
 use Rattle.cg_knowledge.specs.Yellow.{yellow_group, is_in_each, is_green_at_most}
 use Rattle.cg_knowledge.proofs.Filtered.{fold-filter-behind}
@@ -16,5 +16,5 @@ returns c =
     ∙ ap (λ all. filter (λ s. s.yellow.valid) (filter (knows_prim (newest_index summaries)) all)) (take_all c.loop-s.s-index summaries c.loop-s-test.false) in
     c.from_vec.ensures
     ∙ c.loop-s.invariant
-    ∙ (λ i. fold (λ ids s. filter (names s.yellow.list) ids) (c.in_ok-names.ensures i) (group i))
-    ∙ fold-filter-behind (λ s. names s.yellow.list) (λ id. not (is_green_at_most summaries id)) (yellow_group summaries) c.args.list.now
+    ∙ (λ i. fold (λ ids s. filter (has_name s.yellow.list) ids) (c.in_ok-names.ensures i) (group i))
+    ∙ fold-filter-behind (λ s. has_name s.yellow.list) (λ id. not (is_green_at_most summaries id)) (yellow_group summaries) c.args.list.now

@@ -1,6 +1,6 @@
 use Rattle.std.proofs.Common.{◌≡◌, ◌<◌, ◌++◌, ◌+◌, [], ◌∷◌, drop, take, suc, false, refl, sym, ap, ◌∙◌, subst, arith}
 use Rattle.std.proofs.lemmas.List.{take_all}
-use Rattle.cg_base.specs.Ids.{names}
+use Rattle.cg_base.specs.Ids.{has_name}
 use Rattle.cg_base.specs.Cuts.{index_in}
 use Rattle.cg_queue.specs.Distinct.{is_distinct}
 use Rattle.cg_queue.specs.DistinctLaws.{distinct-behind}
@@ -27,7 +27,7 @@ loop-i-preserved c =
     let cut = c.loop-i.last in
     let next : take i ids ++ id ∷ [] ≡ take (i + 1) ids =
     taken-next i ids id c.loop-i-test.true c.index-ids-i.is ∙ ap (λ n. take n ids) (let one : suc i ≡ i + 1 = omega arith in one) in
-    let new : names (take i ids) id ≡ false = elim c.else-id-get.branch [
+    let new : has_name (take i ids) id ≡ false = elim c.else-id-get.branch [
       | else-id-get-via-then-id-get+else-has_name w ↦ sym w.has_name.ensures ∙ w.if-has_name.false
       | else-id-get-via-else-id-get w ↦
           let top : c.get.result ≡ index_in cut id.creator = c.get.ensures.value in

@@ -1,6 +1,6 @@
 use Rattle.std.proofs.Common.{◌≡◌, ◌∙◌, ◌-◌, ◌<◌, ◌≤◌, true, false, ap, sym, subst, arith}
 use Rattle.std.specs.Prelude.{slice_get}
-use Rattle.cg_base.specs.Ids.{names}
+use Rattle.cg_base.specs.Ids.{has_name}
 use Rattle.cg_base.specs.Cuts.{index_in}
 use Rattle.cg_queue.specs.Queue.{with_yellow}
 use Rattle.cg_queue.specs.Body.{seen, parts_of, IsSound, flag_of, lane_of, flagged, with_name}
@@ -17,7 +17,7 @@ returns-then-is_flagged-clause-ok c =
     let slot = c.lane_of-slot.ensures.value in
     let i : id.index - c.get-green.result - 1 ≡ id.index - index_in b.green_cut id.creator - 1 = omega arith in
     let flag = c.is_flagged.ensures ∙ ap (λ k. flag_of (slice_get (b.reds k) (id.index - c.get-green.result - 1))) slot ∙ ap (λ j. flag_of (slice_get (b.reds (lane_of id)) j)) i in
-    let there : names (seen b).yellow id ≡ true = sym (red-flag b id c.self.invariant c.lane_of-slot.ensures.creator (omega arith) known) ∙ sym flag ∙ c.if-is_flagged.true in
+    let there : has_name (seen b).yellow id ≡ true = sym (red-flag b id c.self.invariant c.lane_of-slot.ensures.creator (omega arith) known) ∙ sym flag ∙ c.if-is_flagged.true in
     sym c.self.view_is ∙ sym (yellow-kept (seen b) id there) ∙ ap (λ q. with_yellow q id) c.self.view_is
 
 pub invariant_of-self : goal.invariant_of-self
@@ -36,7 +36,7 @@ invariant_of-self-2 c =
     let above : index_in b.green_cut id.creator < id.index = omega arith in
     let slot = c.lane_of-slot.ensures.value in
     let flag = c.is_flagged.ensures ∙ ap (λ k. flag_of (slice_get (b.reds k) (id.index - c.get-green.result - 1))) slot ∙ ap (λ j. flag_of (slice_get (b.reds (lane_of id)) j)) i in
-    let none : names (seen b).yellow id ≡ false = sym (red-flag b id c.self.invariant c.lane_of-slot.ensures.creator above known) ∙ sym flag ∙ c.if-is_flagged.false in
+    let none : has_name (seen b).yellow id ≡ false = sym (red-flag b id c.self.invariant c.lane_of-slot.ensures.creator above known) ∙ sym flag ∙ c.if-is_flagged.false in
     let made = c.in-Ok.ensures.ok ∙ ap (λ k. flagged (with_name b id) k (id.index - c.get-green.result - 1)) slot ∙ ap (flagged (with_name b id) (lane_of id)) i in
     subst IsSound (sym made) (red-named-sound b id c.self.invariant c.lane_of-slot.ensures.creator above known none)
 
@@ -50,7 +50,7 @@ returns-clause-ok c =
     let slot = c.lane_of-slot.ensures.value in
     let i : id.index - c.get-green.result - 1 ≡ id.index - index_in b.green_cut id.creator - 1 = omega arith in
     let flag = c.is_flagged.ensures ∙ ap (λ k. flag_of (slice_get (b.reds k) (id.index - c.get-green.result - 1))) slot ∙ ap (λ j. flag_of (slice_get (b.reds (lane_of id)) j)) i in
-    let none : names (seen b).yellow id ≡ false = sym (red-flag b id c.self.invariant c.lane_of-slot.ensures.creator above known) ∙ sym flag ∙ c.if-is_flagged.false in
+    let none : has_name (seen b).yellow id ≡ false = sym (red-flag b id c.self.invariant c.lane_of-slot.ensures.creator above known) ∙ sym flag ∙ c.if-is_flagged.false in
     let made = c.in-Ok.ensures.ok ∙ ap (λ k. flagged (with_name b id) k (id.index - c.get-green.result - 1)) slot ∙ ap (flagged (with_name b id) (lane_of id)) i in
     ap seen made ∙ red-named-seen b id c.self.invariant c.lane_of-slot.ensures.creator above known
     ∙ sym (yellow-added (seen b) id above none) ∙ ap (λ q. with_yellow q id) c.self.view_is
