@@ -5,6 +5,9 @@
 //! actions there are: each of these is read again as it was written, and nothing else is read. Where bytes have no
 //! reading, the fault is the first from the left. Entries, answers and effects have a printed form alone
 //! (`specs/AnswerPrint.antt`). What actions make of a database is left to the layers above.
+//!
+//! Things in a row that are each within the limits of their type are a `Limited<T>`: of actions, of names of actions,
+//! and of what else has `Limits`.
 #![tactic(auto)]
 
 mod action;
@@ -16,6 +19,7 @@ mod commands;
 mod effect;
 mod entry;
 mod laws;
+mod limited;
 mod print;
 mod query;
 mod reading;
@@ -31,6 +35,7 @@ pub use commands::{CmdList, copy_commands};
 pub use effect::Effect;
 pub use entry::{DbEntry, EntryList, TxtList};
 pub use laws::{actions_are_exact, spellings_stand_apart};
+pub use limited::{Limited, Limits};
 pub use print::{Update, print_kind, print_value};
 pub use query::{Query, copy_query};
 pub use reading::{decode, take_action, take_action_id, take_value};
