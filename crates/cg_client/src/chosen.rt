@@ -6,10 +6,9 @@ ghost use Rattle.cg_action.specs.ActionLimits.{IsAction};
 ghost use Rattle.cg_queue.specs.Queue.{action_of, names_of};
 ghost use Rattle.cg_client.specs.Chosen.{actions_named, plain_reds};
 
-use crate::actions::Actions;
 use crate::checked_queue::CheckedQueue;
 use crate::marking::name_of;
-use cg_action::Action;
+use cg_action::{Action, Limited};
 use cg_base::{ActionId, IdList, IdRuns, NoMemory, Row};
 use std::alloc::Global;
 
@@ -18,10 +17,10 @@ pub fn actions_named(
     alloc: Global,
     queue: &CheckedQueue,
     ids: &[ActionId],
-) -> Result<Actions, NoMemory>
+) -> Result<Limited<Action>, NoMemory>
     ensures { IfOk result (λ list. list ≡ actions_named queue.now ids.now) }
 {
-    let mut list = Actions::new(alloc);
+    let mut list = Limited::new(alloc);
     for id in ids {
         push_named(alloc, queue, *id, &mut list)?;
     }
@@ -32,7 +31,7 @@ fn push_named(
     alloc: Global,
     queue: &CheckedQueue,
     id: ActionId,
-    list: &mut Actions,
+    list: &mut Limited<Action>,
 ) -> Result<(), NoMemory>
     ensures { OnOk result (list.new ≡ list.old ++ option_to_list (action_of queue.now id)) }
 {
@@ -43,7 +42,7 @@ fn push_named(
 }
 
 /// The reds whose names aren't yellow come behind the others, by name.
-pub fn add_plain_reds(queue: &CheckedQueue, list: &mut Actions) -> Result<(), NoMemory>
+pub fn add_plain_reds(queue: &CheckedQueue, list: &mut Limited<Action>) -> Result<(), NoMemory>
     ensures { OnOk result (list.new ≡ list.old ++ plain_reds queue.now) }
 {
     let reds = queue.reds()?;
@@ -53,7 +52,7 @@ pub fn add_plain_reds(queue: &CheckedQueue, list: &mut Actions) -> Result<(), No
     Ok(())
 }
 
-fn push_plain(queue: &CheckedQueue, a: Action, list: &mut Actions) -> Result<(), NoMemory>
+fn push_plain(queue: &CheckedQueue, a: Action, list: &mut Limited<Action>) -> Result<(), NoMemory>
     requires { IsAction a }
     ensures { OnOk result (list.new ≡ list.old ++ filter (λ a. not (has_name queue.now.yellow a.id)) (a ∷ [])) }
 {

@@ -4,9 +4,9 @@ ghost use Rattle.cg_base.specs.Lists.{Each};
 ghost use Rattle.cg_wire.specs.Limits.{IsMsg};
 ghost use Rattle.cg_client.specs.Drafts.{no_parts};
 
-use crate::{Actions, DraftParts, Messages, Names};
-use cg_action::ActionList;
-use cg_base::{IdList, NoMemory, Row};
+use crate::DraftParts;
+use cg_action::{Action, ActionList, Limited};
+use cg_base::{ActionId, IdList, NoMemory, Row};
 use cg_report::Reply;
 use cg_wire::Msg;
 use std::alloc::Global;
@@ -15,10 +15,10 @@ use std::marker::Model;
 /// The event under way: what it has brought about so far. It has to be spent, by a commit that takes it apart or by
 /// `abandon`. Clauses see its parts.
 pub struct Draft {
-    pub(crate) known: Actions,
-    pub(crate) green: Names,
-    pub(crate) made: Actions,
-    pub(crate) sent: Messages,
+    pub(crate) known: Limited<Action>,
+    pub(crate) green: Limited<ActionId>,
+    pub(crate) made: Limited<Action>,
+    pub(crate) sent: Limited<Msg>,
     pub(crate) replies: Row<Reply>,
     pub(crate) marked_own: bool,
 }
@@ -44,10 +44,10 @@ impl Draft {
         ensures { result ≡ no_parts }
     {
         Draft {
-            known: Actions::new(alloc),
-            green: Names::new(alloc),
-            made: Actions::new(alloc),
-            sent: Messages::new(alloc),
+            known: Limited::new(alloc),
+            green: Limited::new(alloc),
+            made: Limited::new(alloc),
+            sent: Limited::new(alloc),
             replies: Row::new(alloc),
             marked_own: false,
         }

@@ -9,7 +9,6 @@
 //! seen as what it holds; that its values have bytes is an invariant of its type, so who has the part knows it.
 #![tactic(auto)]
 
-mod actions;
 mod checked_queue;
 mod checked_servers;
 mod chosen;
@@ -23,8 +22,6 @@ mod kept_request;
 mod lent;
 mod marking;
 mod marks;
-mod messages;
-mod names;
 mod overlay;
 mod own;
 mod parts;
@@ -36,7 +33,6 @@ mod stored;
 mod telling;
 mod weights;
 
-pub use actions::Actions;
 pub use checked_queue::CheckedQueue;
 pub use checked_servers::CheckedServers;
 pub use chosen::{actions_named, add_plain_reds, names_of, plain_names};
@@ -47,8 +43,6 @@ pub use held::Core;
 pub use install::Installed;
 pub use kept_request::KeptRequest;
 pub use marking::{drop_own, last_index, name_of, note_unknown, put_green, put_red};
-pub use messages::Messages;
-pub use names::Names;
 pub use own::Own;
 pub use parts::DraftParts;
 pub use request::Request;

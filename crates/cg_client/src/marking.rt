@@ -7,10 +7,9 @@ ghost use Rattle.cg_queue.specs.Queue.{green_count, placed_red, placed_green};
 ghost use Rattle.cg_client.specs.Chosen.{unknown_in};
 ghost use Rattle.cg_client.specs.Own.{after_first, last_index};
 
-use crate::actions::Actions;
 use crate::checked_queue::CheckedQueue;
 use crate::own::Own;
-use cg_action::Action;
+use cg_action::{Action, Limited};
 use cg_base::{ActionId, NoMemory};
 use cg_queue::QueueFault;
 use std::alloc::Global;
@@ -49,7 +48,7 @@ pub fn drop_own(own: &mut Own, id: &ActionId)
 pub fn note_unknown(
     alloc: Global,
     queue: &CheckedQueue,
-    known: &mut Actions,
+    known: &mut Limited<Action>,
     a: &Action,
 ) -> Result<(), NoMemory>
     requires { IsAction a.now }

@@ -8,8 +8,7 @@ ghost use Rattle.cg_base.specs.Lists.{Each};
 ghost use Rattle.cg_client.specs.Queries.{behind};
 ghost use Rattle.cg_client.specs.Overlay.{with_key, with_command, with_commands, with_action, named_part, has_key, with_mark, merged_keys, answer_with};
 
-use crate::Actions;
-use cg_action::{Action, ActionList, Answer, Cmd, Kind, Query, TxtList, Value};
+use cg_action::{Action, ActionList, Answer, Cmd, Kind, Limited, Query, TxtList, Value};
 use cg_base::NoMemory;
 use cg_db::Db;
 use cg_text::Txt;
@@ -19,7 +18,7 @@ use std::alloc::Global;
 pub(crate) fn answer_behind(
     alloc: Global,
     db: &Db,
-    actions: Actions,
+    actions: Limited<Action>,
     q: &Query,
 ) -> Result<Answer, NoMemory>
     ensures { IfOk result (λ found. found ≡ answer (behind db.now actions) q.now) }
