@@ -49,7 +49,6 @@ mod resuming;
 mod sealing;
 mod settling;
 mod store;
-mod unwritten;
 mod values;
 
 pub use errors::{CommitErr, OpenErr};

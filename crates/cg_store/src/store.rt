@@ -17,9 +17,8 @@ use crate::pending_record::{PendingRecord, prepare};
 use crate::records::checkpoint_record;
 use crate::sealing::seal_all;
 use crate::settling::{Settled, settle};
-use crate::unwritten::Unwritten;
 use crate::{CommitErr, OpenErr, Outputs};
-use cg_action::ActionList;
+use cg_action::{Action, ActionList, Limited};
 use cg_base::{NUMBER_LIMIT, NoMemory, ReplicaId, Row};
 use cg_client::{Core, Draft, DraftParts};
 use cg_disk::{Disk, ModelDisk, Side};
@@ -43,7 +42,8 @@ pub struct Store<D: Disk> {
     generation: u64,
     // the values that stand on the disk
     values: Stable,
-    unwritten: Unwritten,
+    // red marks that stand in no record yet
+    unwritten: Limited<Action>,
 }
 
 impl<D: Disk + Drop> Drop for Store<D> {
@@ -277,7 +277,7 @@ impl<D: Disk> Store<D> {
                 side,
                 generation,
                 values,
-                unwritten: Unwritten::new(alloc),
+                unwritten: Limited::new(alloc),
             }),
             Err(fault) => Err(commit_fault(fault)),
         }
@@ -444,7 +444,7 @@ impl<D: Disk> Store<D> {
                 side: Side::A,
                 generation: 1,
                 values,
-                unwritten: Unwritten::new(alloc),
+                unwritten: Limited::new(alloc),
             }),
             Err(fault) => Err(commit_fault(fault)),
         }
@@ -513,7 +513,7 @@ impl<D: Disk> Store<D> {
                     side,
                     generation,
                     values,
-                    unwritten: Unwritten::new(alloc),
+                    unwritten: Limited::new(alloc),
                 };
                 Ok((store, core))
             }
