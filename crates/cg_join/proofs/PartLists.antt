@@ -1,6 +1,6 @@
 -- Lists of parts: what is pushed makes the parts of a snapshot, and how many these are.
-use Rattle.std.proofs.Common.{◌≡◌, ℕ, zero, suc, List, [], ◌∷◌, ◌++◌, length, map, fold, append-nil, append_assoc, length-append, sym, ap, ◌∙◌, arith}
-use Rattle.std.specs.Prelude.{◌-◌, slice_get, IfSome, IfOk, Some, Result, Ok, Err}
+use Rattle.std.proofs.Common.{◌≡◌, ℕ, List, [], ◌∷◌, ◌++◌, length, map, fold, append-nil, append_assoc, length-append, sym, ap, ◌∙◌, arith}
+use Rattle.std.specs.Prelude.{◌-◌, slice_get, IfOk, Some, Result, Ok, Err}
 use Rattle.std.specs.Option.{option_map}
 use Rattle.std.proofs.lemmas.List.{length-map}
 use Rattle.cg_action.specs.declared.action.Action.{Action}
@@ -19,12 +19,6 @@ use Rattle.cg_client.specs.Joined.{piece_count}
 pub Each-push : {X : Type 0} (P : X → Type 0) (xs : List X) (x : X) → Each P xs → P x → Each P (xs ++ x ∷ [])
 Each-push P [] x each one = (one, tt)
 Each-push P (y ∷ xs) x each one = (each.0, Each-push P xs x each.1 one)
-
-pub Each-get : {X : Type 0} (P : X → Type 0) (xs : List X) (i : ℕ) → Each P xs → IfSome (slice_get xs i) P
-Each-get P [] zero each = tt
-Each-get P [] (suc i) each = tt
-Each-get P (x ∷ xs) zero each = each.0
-Each-get P (x ∷ xs) (suc i) each = Each-get P xs i each.1
 
 -- ---- pushes
 

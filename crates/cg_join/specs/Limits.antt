@@ -1,10 +1,7 @@
 -- Which pieces there are: each part is within the limits of its bytes.
-use Rattle.std.specs.Prelude.{◌≤◌, List, length}
-use Rattle.cg_base.specs.declared.limits.TheConstants.{COUNT_LIMIT}
 use Rattle.cg_base.specs.Sets.{IsId}
 use Rattle.cg_action.specs.ActionLimits.{IsAction}
 use Rattle.cg_db.specs.Limits.{IsEntry}
-use Rattle.cg_base.specs.Lists.{Each}
 use Rattle.cg_records.specs.Limits.{IsNumber, IsPrimary}
 use Rattle.cg_disk_records.specs.Limits.{IsReached}
 use Rattle.cg_join.specs.declared.name.SnapshotName.{SnapshotName}
@@ -37,8 +34,3 @@ IsPart End = Unit {0}
 pub record IsPiece (piece : Piece) : Type 0 where
   pub label : IsLabel piece.label
   pub part : IsPart piece.part
-
--- the parts of a snapshot
-pub record AreParts (parts : List PieceContent) : Type 0 where
-  pub each : Each IsPart parts
-  pub most : length parts ≤ COUNT_LIMIT

@@ -3,10 +3,10 @@ ghost use Rattle.std.specs.Prelude.{◌≡◌, ◌≤◌, ◌+◌, [], length};
 ghost use Rattle.cg_base.specs.declared.limits.TheConstants.{COUNT_LIMIT};
 ghost use Rattle.cg_join.specs.Finishing.{ended as ended_with};
 
-use crate::piece_contents::PieceContents;
 use crate::rebuild::core_of;
 use crate::taking::take;
-use crate::{JoinErr, SnapshotName};
+use crate::{JoinErr, PieceContent, SnapshotName};
+use cg_action::Limited;
 use cg_base::ReplicaId;
 use cg_disk::Disk;
 use cg_store::{CommitErr, Store};
@@ -20,7 +20,7 @@ pub struct Joiner<D: Disk> {
     disk: D,
     id: ReplicaId,
     name: SnapshotName,
-    parts: PieceContents,
+    parts: Limited<PieceContent>,
     alloc: Global,
 }
 
@@ -59,7 +59,7 @@ impl<D: Disk> Joiner<D> {
             disk,
             id,
             name,
-            parts: PieceContents::new(alloc),
+            parts: Limited::new(alloc),
             alloc,
         }
     }

@@ -14,7 +14,6 @@ mod joiner;
 mod laws;
 mod name;
 mod piece;
-mod piece_contents;
 mod reading;
 mod rebuild;
 mod snapshot;

@@ -1,5 +1,5 @@
 use crate::SnapshotName;
-use cg_action::{Action, Boxed, DbEntry};
+use cg_action::{Action, Boxed, DbEntry, Limits};
 use cg_disk_records::Reached;
 use cg_records::Primary;
 
@@ -28,6 +28,12 @@ pub enum PieceContent {
     /// The next entry of the database.
     Entry(DbEntry),
     End,
+}
+
+impl Limits for PieceContent {
+    ghost use Rattle.cg_join.specs.Limits.{IsPart};
+
+    ghost limit = { IsPart };
 }
 
 /// A piece of a snapshot.

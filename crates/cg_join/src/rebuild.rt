@@ -11,10 +11,9 @@ ghost use Rattle.cg_store.specs.Leading.{LeadTo};
 ghost use Rattle.cg_client.specs.Joined.{joiner_content};
 ghost use Rattle.cg_join.specs.Snapshot.{parts_of, joined_from};
 
-use crate::Head;
 use crate::gather::{Gathered, gather};
-use crate::piece_contents::PieceContents;
-use cg_action::{ActionList, Boxed};
+use crate::{Head, PieceContent};
+use cg_action::{ActionList, Boxed, Limited};
 use cg_base::{NoMemory, ReplicaId};
 use cg_client::Core;
 use cg_db::Db;
@@ -23,11 +22,15 @@ use cg_store::{GreenState, resume};
 use std::alloc::Global;
 
 /// What a joiner holds to which these parts came: those of a snapshot.
-pub(crate) fn core_of(alloc: Global, id: ReplicaId, parts: PieceContents) -> Result<Core, NoMemory>
+pub(crate) fn core_of(
+    alloc: Global,
+    id: ReplicaId,
+    parts: Limited<PieceContent>,
+) -> Result<Core, NoMemory>
     requires { IsSnapshotFor id parts }
     ensures { (h : Held) → Ascends h.db → parts ≡ parts_of h → IfOk result (λ core. core ≡ joiner_content id h) }
 {
-    let Gathered { head, greens, db } = gather(alloc, parts.into_vec())?;
+    let Gathered { head, greens, db } = gather(alloc, parts.into_list().into_vec())?;
     match head {
         Some(head) => rebuild(alloc, id, head, greens, db),
         None => unreachable!(),

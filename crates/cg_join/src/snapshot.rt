@@ -9,10 +9,9 @@ ghost use Rattle.cg_records.specs.Limits.{IsNumber};
 ghost use Rattle.cg_join.specs.Limits.{IsHead, IsPiece};
 ghost use Rattle.cg_join.specs.Snapshot.{head_of, parts_of, with_green_part, with_entry_part, piece_at, bytes_at};
 
-use crate::piece_contents::PieceContents;
 use crate::writing::encode;
 use crate::{Head, Label, PieceContent, SnapshotName};
-use cg_action::{ActionList, Boxed, EntryList};
+use cg_action::{ActionList, Boxed, EntryList, Limited};
 use cg_base::{Bytes, NoMemory};
 use cg_client::Core;
 use cg_disk_records::Reached;
@@ -22,7 +21,7 @@ use std::marker::Model;
 /// What a replica had green when the snapshot was made. Its memory is that content, once.
 pub struct SnapshotWriter {
     name: SnapshotName,
-    parts: PieceContents,
+    parts: Limited<PieceContent>,
     alloc: Global,
 }
 
@@ -59,7 +58,7 @@ impl SnapshotWriter {
         let entries = core.entries()?;
         // with the head and the end
         let count = greens.len().saturating_add(entries.len()).saturating_add(2);
-        let mut parts = PieceContents::with_capacity(alloc, count)?;
+        let mut parts = Limited::with_capacity(alloc, count)?;
         let head = Boxed::new(alloc, head_of(core))?;
         parts.push(PieceContent::Start(head))?;
         push_greens(alloc, &mut parts, greens)?;
@@ -117,7 +116,11 @@ fn head_of(core: &Core) -> Head
     }
 }
 
-fn push_greens(alloc: Global, parts: &mut PieceContents, greens: ActionList) -> Result<(), NoMemory>
+fn push_greens(
+    alloc: Global,
+    parts: &mut Limited<PieceContent>,
+    greens: ActionList,
+) -> Result<(), NoMemory>
     requires { Each IsAction greens }
     ensures { OnOk result (parts.new ≡ fold with_green_part parts.old greens) }
 {
@@ -128,7 +131,7 @@ fn push_greens(alloc: Global, parts: &mut PieceContents, greens: ActionList) -> 
     Ok(())
 }
 
-fn push_entries(parts: &mut PieceContents, entries: EntryList) -> Result<(), NoMemory>
+fn push_entries(parts: &mut Limited<PieceContent>, entries: EntryList) -> Result<(), NoMemory>
     requires { AreEntries entries }
     ensures { OnOk result (parts.new ≡ fold with_entry_part parts.old entries) }
 {

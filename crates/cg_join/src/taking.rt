@@ -5,8 +5,8 @@ ghost use Rattle.cg_join.specs.Limits.{IsPart};
 ghost use Rattle.cg_join.specs.Taking.{refusal, Adds, Takes};
 
 use crate::errors::bad;
-use crate::piece_contents::PieceContents;
-use crate::{JoinErr, Label, Piece, SnapshotName, decode_piece};
+use crate::{JoinErr, Label, Piece, PieceContent, SnapshotName, decode_piece};
+use cg_action::Limited;
 use cg_base::NoMemory;
 use std::alloc::Global;
 
@@ -15,7 +15,7 @@ use std::alloc::Global;
 pub(crate) fn take(
     alloc: Global,
     name: &SnapshotName,
-    parts: &mut PieceContents,
+    parts: &mut Limited<PieceContent>,
     bytes: &[u8],
 ) -> Result<bool, JoinErr>
     ensures { Takes name.now parts.old parts.new bytes.now result }
@@ -29,7 +29,7 @@ pub(crate) fn take(
 fn add(
     alloc: Global,
     name: &SnapshotName,
-    parts: &mut PieceContents,
+    parts: &mut Limited<PieceContent>,
     piece: Piece,
 ) -> Result<bool, JoinErr>
     requires { IsPart piece.part }
@@ -52,13 +52,13 @@ fn add(
 const MOST_AT_ONCE: u64 = 1 << 16;
 
 // room for the parts that are to come, before the first one
-fn make_room(alloc: Global, parts: &mut PieceContents, count: u64) -> Result<(), NoMemory>
+fn make_room(alloc: Global, parts: &mut Limited<PieceContent>, count: u64) -> Result<(), NoMemory>
     ensures { parts.new ≡ parts.old }
 {
     if parts.len() > 0 {
         return Ok(());
     }
-    let room = PieceContents::with_capacity(alloc, count.min(MOST_AT_ONCE) as usize)?;
+    let room = Limited::with_capacity(alloc, count.min(MOST_AT_ONCE) as usize)?;
     *parts = room;
     Ok(())
 }
