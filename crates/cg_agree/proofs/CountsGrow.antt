@@ -4,7 +4,7 @@ use Rattle.std.specs.Prelude.{◌==◌}
 use Rattle.std.specs.Option.{option_map_or}
 use Rattle.std.proofs.lemmas.Bool.{cases_eq, cond_both, cond-true, cond-false, ne_eqb}
 use Rattle.std.proofs.lemmas.List.{length-append, length-map}
-use Rattle.cg_group.specs.EachLaws.{Each-has}
+use Rattle.cg_base.specs.EachLaws.{Each-has}
 use Rattle.cg_base.specs.declared.action_id.ActionId.{ActionId}
 use Rattle.cg_base.specs.declared.weighted.Weighted.{Weighted}
 use Rattle.cg_base.specs.Lists.{above_up_to, Each}

@@ -14,7 +14,7 @@ use Rattle.cg_db.specs.Apply.{apply, fold_actions}
 use Rattle.cg_db.specs.Find.{answer}
 use Rattle.cg_queue.specs.Queue.{green_count, names_of}
 use Rattle.cg_base.specs.Lists.{Each}
-use Rattle.cg_group.specs.EachLaws.{Each-filter, Each-append}
+use Rattle.cg_base.specs.EachLaws.{Each-filter, Each-append}
 use Rattle.cg_group.specs.State.{is_up}
 use Rattle.cg_client.specs.Install.{actions_named}
 use Rattle.cg_client.specs.Queries.{plain_reds, behind, dirty_answer, view_of}

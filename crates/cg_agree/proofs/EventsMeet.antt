@@ -5,7 +5,7 @@ use Rattle.cg_base.specs.Lists.{above_up_to, Each}
 use Rattle.cg_action.specs.declared.action.Kind.TheVariants.{Update, Join as JoinKind, Leave as LeaveKind}
 use Rattle.cg_wire.specs.declared.message.Msg.{Msg}
 use Rattle.cg_group.specs.declared.delivery.Handed.{Handed}
-use Rattle.cg_group.specs.EachLaws.{Each-has}
+use Rattle.cg_base.specs.EachLaws.{Each-has}
 use Rattle.cg_base.specs.Sets.{has}
 use Rattle.cg_group.specs.declared.delivery.Delivery.TheVariants.{Regular as RegularIn}
 use Rattle.cg_group.specs.State.{delivered_to, home}

@@ -9,7 +9,7 @@ use Rattle.cg_agree_lemmas.specs.GroupChanges.{configurations-down, configuratio
 use Rattle.cg_agree_lemmas.specs.GroupSound.{made-is}
 use Rattle.cg_model.specs.Small.{make_configuration}
 use Rattle.cg_base.specs.Lists.{above_up_to, at_place, Each}
-use Rattle.cg_group.specs.EachLaws.{Each-append}
+use Rattle.cg_base.specs.EachLaws.{Each-append}
 use Rattle.cg_group.specs.Events.{become_regular, become_transitional, come_up, gather, go_down, merge, order, order_all, order_from, receive, receive_all, regulars, send_all, split, with_delivered, with_message, with_receipt}
 use Rattle.cg_group.specs.LookupLaws.{at_place-changed, configurations-set_standing}
 use Rattle.cg_group.specs.State.{Configuration, GroupState, Standing, configuration, delivered_to, home, no_configuration, phase_of, regular_in, set_configuration, set_standing, standing_of, unordered_of}

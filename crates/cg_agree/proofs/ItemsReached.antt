@@ -2,7 +2,7 @@
 use Rattle.std.proofs.Common.{◌≡◌, ℕ, zero, suc, ◌-◌, ◌<◌, ◌≤◌, true, List, [], ◌∷◌, ◌++◌, map, flat_map, fold, length, Option, Some, None, IfSome, refl, sym, ap, subst, arith, slice_get}
 use Rattle.std.specs.Option.{option_map_or}
 use Rattle.std.proofs.lemmas.Bool.{and_parts}
-use Rattle.cg_group.specs.EachLaws.{Each-append, Each-above}
+use Rattle.cg_base.specs.EachLaws.{Each-append, Each-above}
 use Rattle.cg_base.specs.Lists.{above_up_to, Each}
 use Rattle.cg_knowledge.specs.declared.summary.Summary.{Summary}
 use Rattle.cg_knowledge.specs.Summaries.{most_updated}

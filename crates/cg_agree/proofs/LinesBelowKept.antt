@@ -5,7 +5,7 @@ use Rattle.std.specs.Option.{option_map_or}
 use Rattle.std.proofs.lemmas.Bool.{cond-true, and_parts, or_cases, or_right}
 use Rattle.std.proofs.lemmas.List.{length-drop}
 use Rattle.cg_base.specs.Lists.{Each}
-use Rattle.cg_group.specs.EachLaws.{Each-append, Each-weaker}
+use Rattle.cg_base.specs.EachLaws.{Each-append, Each-weaker}
 use Rattle.cg_base.specs.declared.weighted.Weighted.{Weighted}
 use Rattle.cg_base.specs.Sets.{has}
 use Rattle.cg_base.specs.Text.{is_nil}

@@ -3,7 +3,7 @@ use Rattle.std.proofs.Common.{◌⊎◌, ◌≡◌, ℕ, zero, suc, ◌+◌, ◌
 use Rattle.std.specs.Prelude.{◌==◌}
 use Rattle.std.specs.Option.{option_map_or}
 use Rattle.std.proofs.lemmas.Bool.{cases_Bool, cond_both, cond-true, eq-eqb}
-use Rattle.cg_group.specs.EachLaws.{Each-append}
+use Rattle.cg_base.specs.EachLaws.{Each-append}
 use Rattle.cg_base.specs.Lists.{above_up_to, Each}
 use Rattle.cg_queue.specs.Queue.{green_count}
 use Rattle.cg_wire.specs.declared.message.Msg.{Msg}

@@ -10,7 +10,7 @@ use Rattle.cg_wire.specs.declared.message.Msg.{Msg}
 use Rattle.cg_group.specs.State.{GroupState, delivered_to, unordered_of, home}
 use Rattle.cg_group.specs.Refusals.{empty_set, any_of, not_up, merge_refusal}
 use Rattle.cg_group.specs.Events.{furthest, handed_in_split, deliveries_at, deliver, regulars, order_all}
-use Rattle.cg_group.specs.EachLaws.{Each-append, Each-at}
+use Rattle.cg_base.specs.EachLaws.{Each-append, Each-at}
 use Rattle.cg_group.specs.declared.delivery.Delivery.TheVariants.{Regular as RegularIn}
 use Rattle.cg_client.specs.Replica.{Held, Replica}
 use Rattle.cg_model.specs.ReplicaStep.{Input, Deliveries, Asks as AsksOf}

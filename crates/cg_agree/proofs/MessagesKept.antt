@@ -10,7 +10,7 @@ use Rattle.cg_group.specs.declared.phase.Phase.TheVariants.{Alone, Regular, Tran
 use Rattle.cg_group.specs.State.{Sent, Configuration, Standing, GroupState, configuration, standing_of, unordered_of, regular_in, phase_of, set_standing, set_configuration, delivered_to}
 use Rattle.cg_group.specs.Events.{come_up, go_down, send_from, send, send_all, order_from, order, receive, with_message, with_receipt, with_delivered, become_regular}
 use Rattle.cg_base.specs.Lists.{Each}
-use Rattle.cg_group.specs.EachLaws.{Each-append}
+use Rattle.cg_base.specs.EachLaws.{Each-append}
 use Rattle.cg_group.specs.LookupLaws.{unordered_of-set, standing_of-down, standing_of-set_configuration}
 use Rattle.cg_client.specs.Replica.{Replica}
 use Rattle.cg_client.specs.Turn.{Turn, begin}

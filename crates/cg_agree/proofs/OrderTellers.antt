@@ -11,7 +11,7 @@ use Rattle.cg_model.specs.Small.{Small, Starts, Makes, Enters, Orders, Receives,
 use Rattle.cg_model.specs.World.{NodeState, Up, Down, Node, World, running, node_of, replica_of}
 use Rattle.cg_model.specs.Played.{IsSame, KeptBySmalls, MayBeMade, StandsBeside}
 use Rattle.cg_base.specs.Lists.{Each}
-use Rattle.cg_group.specs.EachLaws.{Each-append, Each-all, Each-weaker}
+use Rattle.cg_base.specs.EachLaws.{Each-append, Each-all, Each-weaker}
 use Rattle.std.proofs.Common.{◌≡◌, ◌++◌, ◌∷◌, ◌≤◌, ◌∙◌, ◌⊎◌, ◌&&◌, ◌-◌, if◌then◌else◌, IfSome, List, None, Option, Some, ap, append-nil, arith, eqb-true, false, flat_map, inl, inr, is_some, length, option_and_then, option_map, refl, replicate, subst, suc, sym, true, zero, ℕ, []}
 use Rattle.std.proofs.lemmas.Bool.{and_parts, cases_Bool, cond-false, cond_both}
 use Rattle.std.specs.Option.{option_map_or}

@@ -1,7 +1,7 @@
 -- While a replica is up, and before it begins, nobody has an action of it that wasn't shown as made: all that anybody has is in the book,
 -- and all that it created was shown.
 use Rattle.cg_base.specs.Lists.{Each}
-use Rattle.cg_group.specs.EachLaws.{Each-weaker, Each-list_all}
+use Rattle.cg_base.specs.EachLaws.{Each-weaker, Each-list_all}
 use Rattle.std.proofs.Common.{◌≡◌, ◌≤◌, ◌∙◌, ◌&&◌, IfSome, List, None, Option, Some, ap, arith, false, is_some, leb-true, nat_le, nat_lt, option_and_then, option_map, refl, subst, sym, true, ℕ, []}
 use Rattle.std.proofs.lemmas.Bool.{and_parts}
 use Rattle.cg_action.specs.declared.action.Action.{Action}

@@ -40,7 +40,7 @@ use Rattle.cg_base.specs.Weights.{ids}
 use Rattle.cg_base.specs.declared.weighted.Weighted.{Weighted}
 use Rattle.cg_client.specs.Replica.{NonPrim, Replica, fresh}
 use Rattle.cg_client.specs.Turn.{begin}
-use Rattle.cg_group.specs.EachLaws.{Each-append}
+use Rattle.cg_base.specs.EachLaws.{Each-append}
 use Rattle.cg_group.specs.State.{GroupState, configuration, delivered_to, home, phase_of, regular_in}
 use Rattle.cg_group.specs.declared.delivery.Handed.{Handed}
 use Rattle.cg_queue.specs.Queue.{green_count, names_of}

@@ -5,7 +5,7 @@ use Rattle.std.specs.Option.{option_map_or}
 use Rattle.std.proofs.lemmas.Bool.{cases_Bool, cond-true, cond-false}
 use Rattle.cg_base.specs.Sets.{has}
 use Rattle.cg_base.specs.Lists.{Each}
-use Rattle.cg_group.specs.EachLaws.{Each-weaker}
+use Rattle.cg_base.specs.EachLaws.{Each-weaker}
 use Rattle.cg_group.specs.State.{GroupState, phase_of}
 use Rattle.cg_wire.specs.declared.message.Msg.{Msg}
 use Rattle.cg_report.specs.declared.line.Line.{Line}

@@ -28,7 +28,7 @@ use Rattle.cg_client.specs.Replica.{Construct, ExchangeActions, ExchangeStates, 
 use Rattle.cg_client.specs.Requests.{buffer, create, create_kept, empty_buffer, is_creating, next_action, request, request_in, settle}
 use Rattle.cg_client.specs.Whitening.{white_at}
 use Rattle.cg_base.specs.Lists.{Each}
-use Rattle.cg_group.specs.EachLaws.{Each-append}
+use Rattle.cg_base.specs.EachLaws.{Each-append}
 use Rattle.cg_group.specs.declared.delivery.Handed.{Handed}
 use Rattle.cg_queue.specs.Queue.{green_count, names_of}
 use Rattle.cg_disk_records.specs.Crash.{Crashes, Disk, EventEnd, Runs, end_event, whitened}

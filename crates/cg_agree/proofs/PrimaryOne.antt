@@ -2,7 +2,7 @@
 use Rattle.std.proofs.Common.{◌⊎◌, ◌≡◌, ℕ, zero, suc, ◌≤◌, ◌<◌, List, [], ◌∷◌, map, filter, find, length, Option, Some, None, IfSome, Contains, refl, sym, ap, ◌∙◌, subst, inl, inr, arith, eq-eqb, option_and_then}
 use Rattle.std.specs.Prelude.{◌==◌}
 use Rattle.std.proofs.lemmas.Bool.{cases_eq, cond-true, cond-false, ne_eqb}
-use Rattle.cg_group.specs.EachLaws.{Each-weaker, Each-filter, Each-append}
+use Rattle.cg_base.specs.EachLaws.{Each-weaker, Each-filter, Each-append}
 use Rattle.cg_base.specs.Lists.{present, Each}
 use Rattle.cg_base.specs.declared.weighted.Weighted.{Weighted}
 use Rattle.cg_records.specs.declared.primary.Primary.{Primary}

@@ -20,7 +20,7 @@ use Rattle.cg_plan.specs.PlanLaws.{length-items, length-turn, items-cons}
 use Rattle.cg_plan.specs.Progress.{is_done}
 use Rattle.cg_plan.specs.Parts.{size_of}
 use Rattle.cg_base.specs.Lists.{Each}
-use Rattle.cg_group.specs.EachLaws.{Each-weaker}
+use Rattle.cg_base.specs.EachLaws.{Each-weaker}
 use Rattle.cg_model.specs.Talk.{Talk, is_full, is_through, due_from, due_items}
 use Rattle.cg_agree_lemmas.specs.DueAll.{item_by, items_by, by-sender, take-beyond}
 use Rattle.cg_agree_lemmas.specs.EndCovers.{OfEach}

@@ -1,7 +1,7 @@
 -- The actions of a front of the order, as the steps of a run have shown them, are those that replicas have there.
 use Rattle.std.proofs.Common.{◌≡◌, suc, List, [], ◌∷◌, take, length, Some, refl, sym, ap, ◌∙◌, subst}
 use Rattle.cg_base.specs.Lists.{Each}
-use Rattle.cg_group.specs.EachLaws.{Each-weaker}
+use Rattle.cg_base.specs.EachLaws.{Each-weaker}
 use Rattle.cg_action.specs.declared.action.Action.{Action}
 use Rattle.cg_queue.specs.Queue.{names_of}
 use Rattle.cg_model.specs.Chronicle.{Chronicle}

@@ -7,7 +7,7 @@ use Rattle.cg_base.specs.declared.action_id.ActionId.{ActionId}
 use Rattle.cg_base.specs.Cuts.{index_in}
 use Rattle.cg_base.specs.Ids.{same_id, id_before}
 use Rattle.cg_base.specs.Lists.{at_place, Each}
-use Rattle.cg_group.specs.EachLaws.{Each-append, Each-filter}
+use Rattle.cg_base.specs.EachLaws.{Each-append, Each-filter}
 use Rattle.cg_action.specs.declared.action.Action.{Action}
 use Rattle.cg_action.specs.declared.action.Kind.{Kind}
 use Rattle.cg_queue.specs.Queue.{QueueView, Marks, Gaps, with_red, placed_red}

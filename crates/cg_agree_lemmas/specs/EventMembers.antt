@@ -12,7 +12,7 @@ use Rattle.cg_group.specs.State.{GroupState, configuration, is_up, is_regular, r
 use Rattle.cg_group.specs.Ready.{ready_in}
 use Rattle.cg_group.specs.Refusals.{empty_set, any_of, not_up, not_regular, not_one_configuration, still_regular, not_together, split_refusal, merge_refusal}
 use Rattle.cg_base.specs.Lists.{Each}
-use Rattle.cg_group.specs.EachLaws.{Each-has, Each-weaker}
+use Rattle.cg_base.specs.EachLaws.{Each-has, Each-weaker}
 use Rattle.cg_client.specs.Replica.{Replica}
 use Rattle.cg_schedule.specs.declared.event.Event.TheVariants.{Split, Merge}
 use Rattle.cg_model.specs.World.{Node, World, running, replica_of, is_left, is_left_state, left_replicas}

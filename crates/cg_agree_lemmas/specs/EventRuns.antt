@@ -8,7 +8,7 @@ use Rattle.cg_action.specs.declared.action.Kind.{Kind}
 use Rattle.cg_action.specs.declared.action.Kind.TheVariants.{Update, Join as JoinKind, Leave as LeaveKind}
 use Rattle.cg_wire.specs.declared.message.Msg.{Msg}
 use Rattle.cg_group.specs.declared.delivery.Delivery.TheVariants.{Regular as RegularIn}
-use Rattle.cg_group.specs.EachLaws.{Each-append}
+use Rattle.cg_base.specs.EachLaws.{Each-append}
 use Rattle.cg_group.specs.State.{GroupState, delivered_to, home, is_regular}
 use Rattle.cg_group.specs.Ready.{ready}
 use Rattle.cg_group.specs.Refusals.{deliver_refusal, not_up, not_regular, not_ready}

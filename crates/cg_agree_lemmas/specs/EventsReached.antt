@@ -28,7 +28,7 @@ use Rattle.cg_model.specs.Turns.{stands, taken, taken_by, turns_of}
 use Rattle.cg_base.specs.Lists.{above_up_to, Each}
 use Rattle.cg_client.specs.Replica.{Replica}
 use Rattle.cg_client.specs.Turn.{begin}
-use Rattle.cg_group.specs.EachLaws.{Each-weaker}
+use Rattle.cg_base.specs.EachLaws.{Each-weaker}
 use Rattle.cg_group.specs.Events.{become_regular, become_transitional, deliver, deliveries_at, handed_in_split, send_all}
 use Rattle.cg_group.specs.Ready.{ready}
 use Rattle.cg_group.specs.Refusals.{deliver_refusal, not_ready, not_regular, not_up}

@@ -13,7 +13,7 @@ use Rattle.cg_group.specs.declared.reason.Reason.TheVariants.{NotUp, NotRegular,
 use Rattle.cg_group.specs.State.{Sent, Standing, Configuration, GroupState, no_configuration, standing_of, configuration, phase_of, regular_in, home, unordered_of, has_received, set_standing, set_configuration, changed_at}
 use Rattle.cg_group.specs.Events.{order, order_from, order_all, with_message, receive, with_receipt, regulars}
 use Rattle.cg_group.specs.Refusals.{refuse, not_up, not_regular, no_such_place, already_received, earlier_missing, is_missing, sender_at, receive_refusal}
-use Rattle.cg_group.specs.EachLaws.{Each-above, Each-weaker}
+use Rattle.cg_base.specs.EachLaws.{Each-above, Each-weaker}
 use Rattle.cg_group.specs.LookupLaws.{at_place-changed}
 use Rattle.cg_group.specs.PlaceLaws.{at_place-within}
 use Rattle.cg_model.specs.World.{World}

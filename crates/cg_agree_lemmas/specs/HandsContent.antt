@@ -21,7 +21,7 @@ use Rattle.cg_plan.specs.Items.{items_of, red_item}
 use Rattle.cg_plan.specs.Plan.{green_part, red_part, reds_of, creators, plan_of, least_greens, least_reds, farthest}
 use Rattle.cg_plan.specs.Progress.{is_done, turn_of}
 use Rattle.cg_wire.specs.declared.message.Msg.TheVariants.{GreenItem, RedItem, Cpc}
-use Rattle.cg_group.specs.EachLaws.{Each-above, Each-append}
+use Rattle.cg_base.specs.EachLaws.{Each-above, Each-append}
 use Rattle.cg_group.specs.PlaceLaws.{at_place-append}
 use Rattle.cg_client.specs.Replica.{Held, ExchangeActions}
 use Rattle.cg_client.specs.Turn.{Turn, go_to}

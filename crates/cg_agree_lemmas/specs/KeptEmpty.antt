@@ -1,7 +1,7 @@
 -- Who creates keeps no request behind an event, and who has left keeps none; and what is held goes on through a replica's whole step.
 use Rattle.std.proofs.Common.{◌≡◌, Bool, true, false, cond, List, [], ◌∷◌, ◌++◌, fold, refl, sym, ap, ◌∙◌, subst}
 use Rattle.cg_base.specs.Lists.{Each}
-use Rattle.cg_group.specs.EachLaws.{Each-all}
+use Rattle.cg_base.specs.EachLaws.{Each-all}
 use Rattle.cg_action.specs.declared.action.Action.{Action}
 use Rattle.cg_action.specs.declared.action.Kind.{Kind}
 use Rattle.cg_queue.specs.Queue.{Marking, Marks, Gaps, marked_red}

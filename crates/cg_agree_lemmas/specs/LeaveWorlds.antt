@@ -12,7 +12,7 @@ use Rattle.cg_group.specs.declared.delivery.Delivery.TheVariants.{Transitional a
 use Rattle.cg_group.specs.State.{Standing, Configuration, GroupState, configuration, regular_in, has_received, set_standing}
 use Rattle.cg_group.specs.Events.{send_all, deliveries_at, transitional_places}
 use Rattle.cg_group.specs.Refusals.{sender_at}
-use Rattle.cg_group.specs.EachLaws.{Each-above, Each-weaker}
+use Rattle.cg_base.specs.EachLaws.{Each-above, Each-weaker}
 use Rattle.cg_client.specs.Turn.{Turn, begin}
 use Rattle.cg_client.specs.Requests.{settle}
 use Rattle.cg_disk_records.specs.Crash.{Disk}

@@ -9,7 +9,7 @@ use Rattle.cg_base.specs.IdLaws.{same_id-true, same_id-false, same_name}
 use Rattle.cg_base.specs.Lists.{count_up, Each}
 use Rattle.cg_base.specs.Sets.{has}
 use Rattle.cg_base.specs.IdRuns.{names_above}
-use Rattle.cg_group.specs.EachLaws.{Each-append}
+use Rattle.cg_base.specs.EachLaws.{Each-append}
 use Rattle.cg_model.specs.FactsLists.{IsRising}
 use Rattle.cg_disk_records.specs.Holds.{run_on, cut_behind, ascend, Rising}
 use Rattle.cg_disk_records.specs.RunMarkLaws.{run-names, before-parts, before-creator, before-index, before-trans, ascend-less}

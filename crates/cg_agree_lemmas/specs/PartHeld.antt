@@ -22,7 +22,7 @@ use Rattle.cg_plan.specs.Progress.{turn_of}
 use Rattle.cg_queue.specs.Queue.{names_of, action_of}
 use Rattle.cg_wire.specs.declared.message.Msg.TheVariants.{GreenItem, RedItem}
 use Rattle.cg_group.specs.LookupLaws.{eqb_comm}
-use Rattle.cg_group.specs.EachLaws.{Each-above}
+use Rattle.cg_base.specs.EachLaws.{Each-above}
 use Rattle.cg_group.specs.PlaceLaws.{at_place-within}
 use Rattle.cg_client.specs.Replica.{Held}
 use Rattle.cg_exchange.specs.ExchangeActions.{message_of}

@@ -14,7 +14,7 @@ use Rattle.cg_group.specs.declared.delivery.Handed.{Handed}
 use Rattle.cg_group.specs.declared.delivery.Delivery.TheVariants.{Message, Transitional as TransitionalIn, Regular as RegularIn}
 use Rattle.cg_group.specs.State.{Sent, Configuration, GroupState, configuration, regular_in, phase_of, delivered_to, home}
 use Rattle.cg_group.specs.Events.{delivery_at, deliveries_at, transitional_places, furthest, handed_in_split, deliver, split, merge}
-use Rattle.cg_group.specs.EachLaws.{Each-append}
+use Rattle.cg_base.specs.EachLaws.{Each-append}
 use Rattle.cg_client.specs.Replica.{Held, Replica, fresh}
 use Rattle.cg_model.specs.ReplicaStep.{Input, Deliveries, Asks as AsksOf}
 use Rattle.cg_disk_records.specs.Crash.{FailOnce, StopWith, Strike, at_rest, new_disk, recovered, disk_recovered}

@@ -3,7 +3,7 @@ use Rattle.std.proofs.Common.{◌≡◌, ℕ, ◌<◌, Bool, true, false, cond, 
 use Rattle.std.specs.Prelude.{◌==◌}
 use Rattle.std.specs.Option.{option_map_or}
 use Rattle.std.proofs.lemmas.Bool.{cases_eq, cond-true, cond-false, ne_eqb}
-use Rattle.cg_group.specs.EachLaws.{Each-append}
+use Rattle.cg_base.specs.EachLaws.{Each-append}
 use Rattle.cg_base.specs.Lists.{at_place, Each}
 use Rattle.cg_wire.specs.declared.message.Msg.{Msg}
 use Rattle.cg_group.specs.declared.delivery.Delivery.TheVariants.{Message}

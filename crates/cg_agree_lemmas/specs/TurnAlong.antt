@@ -9,7 +9,7 @@ use Rattle.cg_action.specs.declared.action.Action.{Action}
 use Rattle.cg_wire.specs.declared.message.Msg.{Msg}
 use Rattle.cg_group.specs.declared.delivery.Delivery.{Delivery}
 use Rattle.cg_base.specs.Lists.{Each}
-use Rattle.cg_group.specs.EachLaws.{Each-append, Each-weaker}
+use Rattle.cg_base.specs.EachLaws.{Each-append, Each-weaker}
 use Rattle.cg_group.specs.State.{Standing, GroupState, set_standing}
 use Rattle.cg_group.specs.Events.{send_all}
 use Rattle.cg_client.specs.Replica.{Replica}

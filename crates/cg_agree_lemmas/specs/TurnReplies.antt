@@ -3,7 +3,7 @@
 use Rattle.std.proofs.Common.{◌≡◌, suc, Bool, true, false, cond, List, [], ◌∷◌, ◌++◌, fold, refl, sym, ap, ap₂, ◌∙◌, append-nil, append_assoc, if◌then◌else◌}
 use Rattle.std.specs.Prelude.{◌==◌, nat_le}
 use Rattle.std.proofs.lemmas.Bool.{cond_both}
-use Rattle.cg_group.specs.EachLaws.{Each-all}
+use Rattle.cg_base.specs.EachLaws.{Each-all}
 use Rattle.cg_base.specs.declared.action_id.ActionId.{ActionId}
 use Rattle.cg_base.specs.Cuts.{index_in, raise}
 use Rattle.cg_action.specs.declared.action.Action.{Action}

@@ -18,7 +18,7 @@ use Rattle.cg_model.specs.Turns.{Taken, stands, taken, taken_as, taken_by}
 use Rattle.cg_client.specs.Replica.{Replica}
 use Rattle.cg_client.specs.Turn.{Turn}
 use Rattle.cg_base.specs.Lists.{Each}
-use Rattle.cg_group.specs.EachLaws.{Each-weaker}
+use Rattle.cg_base.specs.EachLaws.{Each-weaker}
 use Rattle.cg_group.specs.Events.{send_all}
 use Rattle.cg_group.specs.State.{GroupState, Standing, set_standing}
 use Rattle.cg_group.specs.declared.delivery.Delivery.{Delivery}

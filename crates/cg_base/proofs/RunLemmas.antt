@@ -10,6 +10,7 @@ use Rattle.std.proofs.lemmas.List.Elements.{All-nil, All-cons, All-append}
 use Rattle.cg_base.specs.declared.action_id.ActionId.{ActionId}
 use Rattle.cg_base.specs.declared.id_runs.IdRun.{IdRun}
 use Rattle.cg_base.specs.Lists.{count_up, above_up_to}
+use Rattle.cg_base.specs.EachLaws.{count_up-add}
 use Rattle.cg_base.specs.Ids.{same_id}
 use Rattle.cg_base.proofs.CutLemmas.{same_id-Decides}
 use Rattle.cg_base.specs.Text.{id_text, with_commas, is_nil}
@@ -24,16 +25,6 @@ none-is_nil (r ∷ runs) = ne_eqb (length (r ∷ runs)) 0 (λ e. omega arith)
 
 -- ---- one run more
 
-count_up-join : (from m n : ℕ) → count_up from (m + n) ≡ count_up from m ++ count_up (from + m) n
-count_up-join from zero n =
-    let none : 0 + n ≡ n = omega arith in
-    let same : from ≡ from + 0 = omega arith in
-    ap (count_up from) none ∙ ap (λ k. count_up k n) same
-count_up-join from (suc m) n =
-    let more : suc m + n ≡ suc (m + n) = omega arith in
-    let next : suc from + m ≡ from + suc m = omega arith in
-    ap (count_up from) more ∙ ap (λ ks. from ∷ ks) (count_up-join (suc from) m n ∙ ap (λ k. count_up (suc from) m ++ count_up k n) next)
-
 -- the names up to one index, and those from the next one on
 names_above-join : (low mid high creator : ℕ) → low ≤ mid → mid < high
     → names_above low high creator ≡ names_above low mid creator ++ record { creator = creator; index = suc mid } ∷ names_above (suc mid) high creator
@@ -42,7 +33,7 @@ names_above-join low mid high creator le lt =
     let whole : high - low ≡ (mid - low) + suc (high - suc mid) = omega arith in
     let next : suc low + (mid - low) ≡ suc mid = omega arith in
     ap (λ k. map name (count_up (suc low) k)) whole
-    ∙ ap (map name) (count_up-join (suc low) (mid - low) (suc (high - suc mid)) ∙ ap (λ k. above_up_to low mid ++ count_up k (suc (high - suc mid))) next)
+    ∙ ap (map name) (count_up-add (suc low) (mid - low) (suc (high - suc mid)) ∙ ap (λ k. above_up_to low mid ++ count_up k (suc (high - suc mid))) next)
     ∙ map-append name (above_up_to low mid) (count_up (suc mid) (suc (high - suc mid)))
 
 -- a run with the names of the one that goes on from it

@@ -9,6 +9,7 @@ use Rattle.std.proofs.lemmas.List.{nil_from_length}
 use Rattle.std.proofs.lemmas.Nat.Bits.{bit_at_or, bit_at_and, bit_at-lt, bit_at_not, bit_at-zero, bit_at_set_same, bit_at_set_other, bit_at_clear_same, bit_at_clear_other, bit_at-trailing_zeros, bit_at_mask_inside, bit_at_mask_below}
 use Rattle.std.proofs.lemmas.Slice.Eq.{bytes_eq-Decides}
 use Rattle.cg_base.specs.Sets.{IsSet, IsId, Ascends, has, with_member, without_member, union, common, without, least}
+use Rattle.cg_base.specs.BoolLaws.{or_true, or_false}
 use Rattle.cg_base.specs.Slots.{held_from, held, member, bit_slot, word_of}
 use Rattle.cg_base.specs.SlotLaws.{value_in, map-itself, held_from-empty, held_from-filled, word_tells, value_in-held, Ascends-members, word_of-held}
 use Rattle.cg_base.proofs.Canonical.{EachMade, held-is}
@@ -103,25 +104,17 @@ members-and_not a b small =
     (λ p low high. bit-and a (bit_not w32 b) p
     ∙ rw (bit-not b p small low high) (sym (has-without (members a) (members b) p ∙ rw (has-members a p low high, has-members b p low high))))
 
-or_true : (a : Bool) → true ≡ (a || true)
-or_true true = refl
-or_true false = refl
-
-or_false : (a : Bool) → a ≡ (a || false)
-or_false true = refl
-or_false false = refl
-
 pub bit-set : (w id p : ℕ) → IsId id → 1 ≤ p → p ≤ 32 → eqb (bit_slot (bit_or w (1 * 2 ^ (id - 1) % 2 ^ bits w32)) p) 1 ≡ (eqb (bit_slot w p) 1 || eqb id p)
 bit-set w id p is_id low high = elim (cases_eq id p) [
   | inl same ↦
       let place : p - 1 ≡ id - 1 = ap (λ n. n - 1) (sym same) in
       let within : id - 1 < bits w32 = let one = is_id.0 in let most = is_id.1 in omega arith in
-      rw (place, bit_at_set_same w32 w (id - 1) within, eq-eqb id p same) (or_true (eqb (bit_at w (id - 1)) 1))
+      rw (place, bit_at_set_same w32 w (id - 1) within, eq-eqb id p same) (sym (or_true (eqb (bit_at w (id - 1)) 1)))
   | inr apart ↦
       let one = is_id.0 in
       let within : id - 1 < bits w32 = let most = is_id.1 in omega arith in
       let other : p - 1 ≢ id - 1 = λ e. apart (omega arith) in
-      rw (bit_at_set_other w32 w (id - 1) within (p - 1) other, ne_eqb id p apart) (or_false (eqb (bit_at w (p - 1)) 1))
+      rw (bit_at_set_other w32 w (id - 1) within (p - 1) other, ne_eqb id p apart) (sym (or_false (eqb (bit_at w (p - 1)) 1)))
 ]
 
 pub members-set : (w id : ℕ) → IsId id → members (bit_or w (1 * 2 ^ (id - 1) % 2 ^ bits w32)) ≡ with_member (members w) id

@@ -7,6 +7,9 @@ use Rattle.cg_base.specs.Cuts.{index_in, with_top, raise, creators_in}
 use Rattle.cg_base.specs.CutLimits.{IsCut, NameActions}
 use Rattle.cg_base.specs.SetLaws.{Ascends-with_member}
 
+pub index_in-first : (top : ActionId) (cut : List ActionId) → index_in (top ∷ cut) top.creator ≡ top.index
+index_in-first top cut = rw (eq-eqb top.creator top.creator refl)
+
 pub index_in-before : (cut : List ActionId) (low p : ℕ) → Ascends low (creators_in cut) → p < low → index_in cut p ≡ 0
 index_in-before [] low p ascends lt = refl
 index_in-before (t ∷ cut) low p ascends lt =

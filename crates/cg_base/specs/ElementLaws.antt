@@ -1,5 +1,7 @@
 -- Lists: where an element stands, the last element, and what is in them one after the other.
-use Rattle.std.proofs.Common.{◌≡◌, ◌⊎◌, ℕ, zero, suc, ◌<◌, List, [], ◌∷◌, ◌++◌, flat_map, length, take, Option, Some, None, Contains, refl, sym, ap, ◌∙◌, inl, inr, subst, arith, append_assoc}
+use Rattle.std.proofs.Common.{◌≡◌, ◌⊎◌, ℕ, zero, suc, ◌<◌, List, [], ◌∷◌, ◌++◌, flat_map, length, take, Option, Some, None, Bool, true, Contains, refl, sym, ap, ◌∙◌, inl, inr, subst, arith, append_assoc}
+use Rattle.std.specs.List.{list_any}
+use Rattle.std.proofs.lemmas.Bool.{or_left, or_right}
 use Rattle.std.proofs.lemmas.List.Elements.{Contains-append_right}
 use Rattle.cg_base.specs.Lists.{present, Each}
 
@@ -16,6 +18,17 @@ module _ {X : Type 0} where
   pub contains-cases : (y : X) (xs : List X) (x : X) → Contains (y ∷ xs) x → (y ≡ x) ⊎ Contains xs x
   contains-cases y xs x (zero, less, is) = inl is
   contains-cases y xs x (suc k, less, is) = inr (k, (let more : suc k < suc (length xs) = less in omega arith), is)
+
+  pub contains-at : (before : List X) (x : X) (after : List X) → Contains (before ++ x ∷ after) x
+  contains-at before x after = Contains-append_right before (x ∷ after) x (contains-here x after)
+
+  -- a test that one of them passes
+  pub any-contains : (test : X → Bool) (xs : List X) (x : X) → Contains xs x → test x ≡ true → list_any test xs ≡ true
+  any-contains test [] x there is = absurd (contains-none x there)
+  any-contains test (y ∷ xs) x (zero, less, here) is = or_left (test y) (list_any test xs) (ap test here ∙ is)
+  any-contains test (y ∷ xs) x (suc k, less, later) is =
+      let within : k < length xs = (let more : suc k < suc (length xs) = less in omega arith) in
+      or_right (test y) (list_any test xs) (any-contains test xs x (k, within, later) is)
 
   pub take-there : (n : ℕ) (xs : List X) (x : X) → Contains (take n xs) x → Contains xs x
   take-there zero xs x there = absurd (contains-none x there)

@@ -1,9 +1,11 @@
--- When two names of actions are one.
-use Rattle.std.proofs.Common.{◌≡◌, ◌≢◌, ◌⊎◌, true, false, refl, sym, ap, eqb, eqb-true, inl, inr}
+-- When two names of actions are one, and which comes before.
+use Rattle.std.proofs.Common.{◌≡◌, ◌≢◌, ◌⊎◌, ◌<◌, List, Contains, arith, true, false, refl, sym, ap, eqb, eqb-true, inl, inr}
 use Rattle.std.specs.Prelude.{◌==◌}
-use Rattle.std.proofs.lemmas.Bool.{cases_Bool, and_parts, eq-eqb, ne_eqb}
+use Rattle.std.specs.List.{list_any}
+use Rattle.std.proofs.lemmas.Bool.{cases_Bool, and_parts, eq-eqb, ne_eqb, lt-ltb, le-ltb}
 use Rattle.cg_base.specs.declared.action_id.ActionId.{ActionId}
-use Rattle.cg_base.specs.Ids.{same_id}
+use Rattle.cg_base.specs.Ids.{same_id, id_before}
+use Rattle.cg_base.specs.ElementLaws.{any-contains}
 
 pub same_id-false : (a b : ActionId) → (a.creator ≢ b.creator) ⊎ (a.index ≢ b.index) → same_id a b ≡ false
 same_id-false a b (inl apart) = rw (ne_eqb a.creator b.creator apart)
@@ -30,3 +32,19 @@ pub same_id-back : (a b : ActionId) → same_id a b ≡ true → same_id b a ≡
 same_id-back a b same =
     let is = same_id-is a b same in
     same_id-true b a (ap (λ (x : ActionId). x.creator) (sym is)) (ap (λ (x : ActionId). x.index) (sym is))
+
+-- a name that stands in the list is found there
+pub named-contained : (ids : List ActionId) (id : ActionId) → Contains ids id → list_any (same_id id) ids ≡ true
+named-contained ids id there = any-contains (same_id id) ids id there (same_id-self id)
+
+-- ---- which name comes before
+
+pub before-creator : (a b : ActionId) → a.creator < b.creator → id_before a b ≡ true
+before-creator a b lt = rw (lt-ltb a.creator b.creator lt) refl
+
+pub before-index : (a b : ActionId) → a.creator ≡ b.creator → a.index < b.index → id_before a b ≡ true
+before-index a b same lt = rw (
+  le-ltb a.creator b.creator (omega arith),
+  eq-eqb a.creator b.creator same,
+  lt-ltb a.index b.index lt,
+) refl

@@ -14,9 +14,15 @@ pub mod Iterators
 pub mod Text
 pub mod Fronts
 pub mod ChoiceLaws
+pub mod BoolLaws
+pub mod OptionLaws
+pub mod ResultLaws
 pub mod ListLaws
+pub mod EachLaws
+pub mod FindLaws
 pub mod IdLaws
 pub mod SetLaws
+pub mod MemberLaws
 pub mod ArrayLaws
 pub mod WeightLaws
 pub mod CutLaws

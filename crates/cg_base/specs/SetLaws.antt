@@ -5,6 +5,7 @@ use Rattle.std.proofs.lemmas.Bool.{cases_eq, cases_order, cases_Bool, eq-eqb, ne
 use Rattle.cg_base.specs.Lists.{count_up}
 use Rattle.cg_base.specs.Sets.{IsId, IsSet, Ascends, has, with_member, without_member, union, common, without, least, is_within}
 use Rattle.cg_base.specs.Replicas.{every_replica}
+use Rattle.cg_base.specs.BoolLaws.{and_false, or_assoc}
 
 -- ---- ascending lists
 
@@ -39,10 +40,6 @@ or_front true false = refl
 or_front false true = refl
 or_front false false = refl
 
-or_inner : (a b c : Bool) → (a || (b || c)) ≡ ((a || b) || c)
-or_inner true b c = refl
-or_inner false b c = refl
-
 pub with_member-same : (q : ℕ) (set : List ℕ) (p : ℕ) → p ≡ q → with_member (q ∷ set) p ≡ q ∷ set
 with_member-same q set p same = rw (eq-eqb p q same)
 
@@ -60,7 +57,7 @@ has-with_member (q ∷ set) p k = elim (cases_order p q) [
   | inr other ↦ elim other [
     | inl front ↦ rw (with_member-front q set p front) (or_front (eqb p k) (eqb q k || has set k))
     | inr later ↦ rw (with_member-later q set p later) (ap (λ b. eqb q k || b) (has-with_member set p k)
-        ∙ or_inner (eqb q k) (has set k) (eqb p k))
+        ∙ sym (or_assoc (eqb q k) (has set k) (eqb p k)))
   ]
 ]
 
@@ -89,13 +86,9 @@ pub filter-drops : {X : Type 0} (test : X → Bool) (x : X) (xs : List X) → te
     filter test (x ∷ xs) ≡ filter test xs
 filter-drops test x xs fails = rw fails
 
-and_false : (a : Bool) → false ≡ (a && false)
-and_false true = refl
-and_false false = refl
-
 has-filter_first : (q k : ℕ) (a : Bool) (test : ℕ → Bool) → test q ≡ false → (a && test k) ≡ ((eqb q k || a) && test k)
 has-filter_first q k a test fails = elim (cases_eq q k) [
-  | inl same ↦ let here : test k ≡ false = rw same at fails in rw here (sym (and_false a) ∙ and_false (eqb q k || a))
+  | inl same ↦ let here : test k ≡ false = rw same at fails in rw here (and_false a ∙ sym (and_false (eqb q k || a)))
   | inr apart ↦ rw (ne_eqb q k apart)
 ]
 
@@ -128,7 +121,7 @@ Ascends-filter test (q ∷ set) low ascends = elim (cases_Bool (test q)) [
 pub has-union : (s t : List ℕ) (k : ℕ) → has (union s t) k ≡ (has s k || has t k)
 has-union s [] k = or_front false (has s k)
 has-union s (p ∷ t) k = has-union (with_member s p) t k ∙ ap (λ b. b || has t k) (has-with_member s p k)
-    ∙ sym (or_inner (has s k) (eqb p k) (has t k))
+    ∙ or_assoc (has s k) (eqb p k) (has t k)
 
 pub Ascends-union : (s t : List ℕ) (low : ℕ) → 1 ≤ low → Ascends 1 s → Ascends low t → Ascends 1 (union s t)
 Ascends-union s [] low one ascends others = ascends

@@ -165,7 +165,7 @@ word_of-held word small =
 -- ---- arrays
 
 -- numbers that count up, each as f and as g make it
-pub map-count_up : (f g : ℕ → ℕ) (count first : ℕ) → ((p : ℕ) → first ≤ p → p < first + count → f p ≡ g p)
+pub map-count_up : {X : Type 0} (f g : ℕ → X) (count first : ℕ) → ((p : ℕ) → first ≤ p → p < first + count → f p ≡ g p)
     → map f (count_up first count) ≡ map g (count_up first count)
 map-count_up f g zero first same = refl
 map-count_up f g (suc count) first same =

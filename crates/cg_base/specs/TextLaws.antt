@@ -1,9 +1,10 @@
--- What stands at the front of a text that grows.
-use Rattle.std.proofs.Common.{◌≡◌, ℕ, false, List, [], ◌∷◌, ◌++◌, length, take, ap, ◌∙◌, refl, append_assoc}
-use Rattle.std.specs.Prelude.{Result, Ok, Err, OnErr}
+-- What stands at the front of a text that grows, and in a text that is put together.
+use Rattle.std.proofs.Common.{◌≡◌, ℕ, false, List, [], ◌∷◌, ◌++◌, length, take, ap, ◌∙◌, refl, subst, arith, ◌<◌, append_assoc}
+use Rattle.std.specs.Prelude.{Result, Ok, Err, OnErr, codes}
 use Rattle.std.specs.Str.{IsUtf8, is_utf8}
 use Rattle.std.proofs.lemmas.Bool.{false_from_ne_true}
-use Rattle.std.proofs.lemmas.Str.{IsUtf8-from_is_utf8}
+use Rattle.std.proofs.lemmas.Str.{IsUtf8-from_is_utf8, IsUtf8-append, IsUtf8-encode, encode_ascii}
+use lib.Utf8.{low_scalar}
 use Rattle.std.proofs.Math.Seq.{take-append_seam}
 use Rattle.cg_base.specs.Fronts.{KeepsFront}
 
@@ -41,3 +42,17 @@ grown_twice before x one y two first second = second ∙ ap (λ s. s ++ y) first
 -- what is no text fails the test
 pub is_utf8-otherwise : (bs : List ℕ) → ¬ (IsUtf8 bs) → is_utf8 bs ≡ false
 is_utf8-otherwise bs none = false_from_ne_true (is_utf8 bs) (λ test. none (IsUtf8-from_is_utf8 bs test))
+
+-- a byte of ASCII in front of a text
+pub ascii_then : (byte : ℕ) (bytes : List ℕ) → byte < 128 → IsUtf8 bytes → IsUtf8 (byte ∷ bytes)
+ascii_then byte bytes small utf8 =
+    IsUtf8-append (byte ∷ []) bytes
+    (subst IsUtf8 (encode_ascii byte small) (IsUtf8-encode byte (low_scalar byte (omega arith)))) utf8
+
+-- two parts with a blank behind each, and what follows them
+pub blank_parts : (p q rest : List ℕ) →
+    (((p ++ codes " ") ++ q) ++ codes " ") ++ rest ≡ p ++ 32 ∷ ((q ++ codes " ") ++ rest)
+blank_parts p q rest =
+    ap (λ t. t ++ rest) (append_assoc (p ++ codes " ") q (codes " "))
+    ∙ append_assoc (p ++ codes " ") (q ++ codes " ") rest
+    ∙ append_assoc p (codes " ") ((q ++ codes " ") ++ rest)

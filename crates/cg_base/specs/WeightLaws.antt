@@ -1,11 +1,12 @@
 -- A set with weights that has one more member: what each weighs in it, and where it stands.
-use Rattle.std.proofs.Common.{◌≡◌, ℕ, ◌<◌, ◌≤◌, ◌||◌, List, [], ◌∷◌, ◌++◌, cond, Bool, true, false, eqb, refl, ap, ◌∙◌, arith, inl, inr}
+use Rattle.std.proofs.Common.{◌≡◌, ℕ, ◌<◌, ◌≤◌, ◌||◌, List, [], ◌∷◌, ◌++◌, cond, true, eqb, refl, sym, ap, ◌∙◌, arith, inl, inr}
 use Rattle.std.proofs.lemmas.Bool.{cases_eq, cases_order, eq-eqb, ne_eqb, lt-ltb, le-ltb, or_right}
 use Rattle.cg_base.specs.declared.weighted.Weighted.{Weighted}
 use Rattle.cg_base.specs.Sets.{IsId, has, with_member}
-use Rattle.cg_base.specs.Weights.{IsWeightSet, Weigh, ids, with_weight}
+use Rattle.cg_base.specs.Weights.{IsWeightSet, Weigh, ids, with_weight, each_once}
 use Rattle.cg_base.specs.Calls.{weight_in}
 use Rattle.cg_base.specs.SetLaws.{Ascends-with_member}
+use Rattle.cg_base.specs.BoolLaws.{or_assoc}
 
 pub weight_in-with_weight : (set : List Weighted) (n : Weighted) (p : ℕ) →
     weight_in (with_weight set n) p ≡ cond (eqb n.id p) n.weight (weight_in set p)
@@ -71,8 +72,8 @@ with_weight-last (m ∷ set) n below =
 pub ids-append : (xs ys : List Weighted) (k : ℕ) → has (ids (xs ++ ys)) k ≡ (has (ids xs) k || has (ids ys) k)
 ids-append [] ys k = refl
 ids-append (m ∷ xs) ys k = ap (λ b. eqb m.id k || b) (ids-append xs ys k)
-    ∙ or_group (eqb m.id k) (has (ids xs) k) (has (ids ys) k)
-  where
-    or_group : (a b c : Bool) → (a || (b || c)) ≡ ((a || b) || c)
-    or_group true b c = refl
-    or_group false b c = refl
+    ∙ sym (or_assoc (eqb m.id k) (has (ids xs) k) (has (ids ys) k))
+
+pub ids-each_once : (set : List ℕ) → ids (each_once set) ≡ set
+ids-each_once [] = refl
+ids-each_once (p ∷ set) = ap (λ xs. p ∷ xs) (ids-each_once set)

@@ -9,7 +9,7 @@ use Rattle.cg_group.specs.declared.reason.Reason.{Reason}
 use Rattle.cg_group.specs.State.{Standing, GroupState, standing_of, phase_of, delivered_to, regular_in, is_up, is_regular}
 use Rattle.cg_group.specs.Refusals.{any_of, not_up, not_regular, not_one_configuration, still_regular, not_together, is_together, left_together}
 use Rattle.cg_group.specs.Events.{furthest}
-use Rattle.cg_group.specs.EachLaws.{Each-at, Each-has}
+use Rattle.cg_base.specs.EachLaws.{Each-at, Each-has}
 use Rattle.cg_group.specs.RefusalLaws.{first_none, refuse_none}
 
 first_none_each : {X : Type 0} (test : ℕ → Option X) (set : List ℕ) → first_some (map test set) ≡ None → Each (λ q. test q ≡ None) set

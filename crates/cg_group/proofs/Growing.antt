@@ -9,7 +9,7 @@ use Rattle.cg_group.specs.State.{Configuration, has_received}
 use Rattle.cg_group.specs.Ready.{all_received}
 use Rattle.cg_group.specs.Events.{deliveries_at, transitional_places}
 use Rattle.cg_group.specs.History.{Parting, Never, was_there}
-use Rattle.cg_group.specs.EachLaws.{Each-weaker, Each-above}
+use Rattle.cg_base.specs.EachLaws.{Each-weaker, Each-above}
 use Rattle.cg_group.specs.PlaceLaws.{deliveries_at-more, transitional_places-more, Each-transitional, all_received-kept}
 use Rattle.cg_group.proofs.Picture.{Picture, Holds}
 use Rattle.cg_group.specs.GrownLaws.{Grows}

@@ -12,7 +12,7 @@ use Rattle.cg_group.specs.State.{Configuration, Standing, Sent, GroupState, stan
 use Rattle.cg_group.specs.Events.{send_from, send, with_receipt, with_message, order_from, order, receive, order_all, receive_all, gather, regulars}
 use Rattle.cg_group.specs.History.{Diary}
 use Rattle.cg_group.specs.Synchrony.{Begins, ordered_from}
-use Rattle.cg_group.specs.EachLaws.{Each-above}
+use Rattle.cg_base.specs.EachLaws.{Each-above}
 use Rattle.cg_group.proofs.Picture.{Holds, conf_in}
 use Rattle.cg_group.specs.GrownLaws.{Grows, ordered-receipt, level-receipt, Grows-receipt, level-message, ordered-message, Grows-message}
 use Rattle.cg_group.specs.LookupLaws.{put, put-own, put-other, put-same, phase_of-set, delivered_to-set, unordered_of-set, configuration-set_standing, configurations-set_standing, standing_of-set_configuration, configuration-set, count-set_configuration, set_configuration-zero, standing_id}

@@ -14,7 +14,7 @@ use Rattle.cg_group.specs.Events.{deliveries_at, delivery_at, transitional_place
 use Rattle.cg_group.specs.Refusals.{not_up, not_regular, no_such_place, already_received, earlier_missing, refuse, receive_refusal}
 use Rattle.cg_group.specs.History.{Call, Add, Fall, SendFrom, OrderNext, ReceiveAt, GatherAll, DeliverNext, SplitOff, MergeInto, Parting, Way, Never, Here, WentDown, WentOn, Diary, History, stay_in, no_stay, diary_after, handed_out_by, MayCall, step, beginning, history_from, MayCallAll}
 use Rattle.cg_group.specs.Synchrony.{IsVirtuallySynchronous, AlwaysSynchronous, IsDownThere, AscendsAbove, places_of, later_of}
-use Rattle.cg_group.specs.EachLaws.{Each-weaker, Each-above}
+use Rattle.cg_base.specs.EachLaws.{Each-weaker, Each-above}
 use Rattle.cg_group.specs.PlaceLaws.{at_place-within, all_received-at, Each-transitional}
 use Rattle.cg_group.proofs.Picture.{Picture, Holds, conf_in}
 use Rattle.cg_group.specs.LookupLaws.{same_both}

@@ -8,7 +8,6 @@ pub mod History
 pub mod Synchrony
 pub mod Rosters
 pub mod Logs
-pub mod EachLaws
 pub mod PlaceLaws
 pub mod LookupLaws
 pub mod RefusalLaws

@@ -14,7 +14,7 @@ use Rattle.cg_group.specs.declared.delivery.Delivery.TheVariants.{Message}
 use Rattle.cg_group.specs.State.{Configuration, Sent, has_received}
 use Rattle.cg_group.specs.Ready.{all_received, ready_in}
 use Rattle.cg_group.specs.Events.{delivery_at, deliveries_at, transitional_places}
-use Rattle.cg_group.specs.EachLaws.{Each-weaker, Each-filter, Each-above, flat_map_same, filter_same, filter_none, list_any_same, list_all_kept_by, list_any_nowhere, Each-all, Each-has, Each-at, Each-list_all, above_up_to-add}
+use Rattle.cg_base.specs.EachLaws.{Each-weaker, Each-filter, Each-above, flat_map_same, filter_same, filter_none, list_any_same, list_all_kept_by, list_any_nowhere, Each-all, Each-has, Each-at, Each-list_all, above_up_to-add}
 use Rattle.cg_base.specs.ListLaws.{length-count_up}
 
 -- the elements of a front of those that pass do pass

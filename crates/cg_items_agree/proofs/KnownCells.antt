@@ -2,7 +2,7 @@
 use Rattle.std.proofs.Common.{◌≡◌, ℕ, zero, suc, ◌+◌, ◌≤◌, ◌<◌, max, Bool, true, false, not, ◌&&◌, List, [], ◌∷◌, filter, Some, refl, sym, ap, ◌∙◌, inl, inr, arith}
 use Rattle.std.specs.Prelude.{◌==◌, nat_lt, nat_le}
 use Rattle.std.proofs.lemmas.Bool.{cases_Bool, cases_eq, cases_lt, and_parts, and_from, cond-true, cond-false, eq-eqb, ne_eqb, leb-true, le-leb, lt-leb}
-use Rattle.cg_group.specs.EachLaws.{Each-append, Each-filter}
+use Rattle.cg_base.specs.EachLaws.{Each-append, Each-filter}
 use Rattle.cg_base.specs.declared.action_id.ActionId.{ActionId}
 use Rattle.cg_base.specs.Calls.{greatest_cut}
 use Rattle.cg_base.specs.Cuts.{index_in, raise}

@@ -12,7 +12,7 @@ use Rattle.cg_queue.specs.Queue.{green_count, names_of}
 use Rattle.cg_wire.specs.declared.message.Msg.{Msg}
 use Rattle.cg_group.specs.declared.delivery.Delivery.TheVariants.{Regular as RegularIn}
 use Rattle.cg_group.specs.declared.delivery.Handed.{Handed}
-use Rattle.cg_group.specs.EachLaws.{Each-has}
+use Rattle.cg_base.specs.EachLaws.{Each-has}
 use Rattle.cg_group.specs.State.{GroupState, delivered_to, home}
 use Rattle.cg_group.specs.Events.{deliveries_at, handed_in_split, deliver, split, merge}
 use Rattle.cg_report.specs.declared.entry.Reply.{Reply}

@@ -11,7 +11,7 @@ use Rattle.cg_group.specs.declared.reason.Reason.{Reason}
 use Rattle.cg_group.specs.declared.reason.Reason.TheVariants.{NotTogether, NotOneConfiguration}
 use Rattle.cg_group.specs.State.{Standing, standing_of, is_up, is_regular, regular_in, phase_of}
 use Rattle.cg_group.specs.Refusals.{refuse, empty_set, left_together, any_of, not_up, not_regular, not_one_configuration, still_regular, is_together, not_together, split_refusal, merge_refusal}
-use Rattle.cg_group.specs.EachLaws.{Each-has, Each-weaker, Each-all, list_any_nowhere}
+use Rattle.cg_base.specs.EachLaws.{Each-has, Each-weaker, Each-all, list_any_nowhere}
 use Rattle.cg_client.specs.Replica.{State, RegPrim, TransPrim, ExchangeStates, ExchangeActions, Construct, No, Un, NonPrim, Left, Replica}
 use Rattle.cg_wire.specs.declared.message.Msg.{Msg}
 use Rattle.cg_schedule.specs.declared.event.Event.TheVariants.{Split, Merge}

@@ -14,7 +14,7 @@ use Rattle.cg_wire.specs.declared.message.Msg.TheVariants.{Action as ActionMsg, 
 use Rattle.cg_group.specs.declared.delivery.Delivery.{Delivery}
 use Rattle.cg_group.specs.declared.delivery.Delivery.TheVariants.{Message}
 use Rattle.cg_base.specs.Lists.{Each}
-use Rattle.cg_group.specs.EachLaws.{Each-all, filter_none}
+use Rattle.cg_base.specs.EachLaws.{Each-all, filter_none}
 use Rattle.cg_client.specs.Replica.{Held, State, ExchangeStates, ExchangeActions, Left}
 use Rattle.cg_client.specs.Turn.{Turn}
 use Rattle.std.proofs.lemmas.Bool.{cond_both}

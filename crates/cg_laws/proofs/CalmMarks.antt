@@ -14,7 +14,7 @@ use Rattle.cg_members.specs.Servers.{was_ever, after_kind}
 use Rattle.cg_queue.specs.declared.mark.Mark.TheVariants.{Placed, Known}
 use Rattle.cg_queue.specs.Queue.{QueueView, Marking, Marks, Gaps, green_count, with_red, placed_red, marked_red, marked_yellow, and_yellow, with_yellow, action_of}
 use Rattle.cg_base.specs.Lists.{Each}
-use Rattle.cg_group.specs.EachLaws.{Each-append, Each-filter}
+use Rattle.cg_base.specs.EachLaws.{Each-append, Each-filter}
 use Rattle.cg_client.specs.Replica.{Held, State, RegPrim, TransPrim, ExchangeStates, ExchangeActions, Construct, No, Un, NonPrim, Left}
 use Rattle.cg_client.specs.Turn.{Turn}
 use Rattle.cg_client.specs.Marks.{is_unmade, after_first, marked, mark_red, mark_yellow, can_be_green, place_green, mark_green, mark_green_at}

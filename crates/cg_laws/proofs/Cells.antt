@@ -7,7 +7,7 @@ use Rattle.std.proofs.lemmas.Bool.{cond_both, cond-true, cond-false, cases_Bool,
 use Rattle.cg_base.specs.Sets.{Ascends, has, with_member, without_member, common}
 use Rattle.cg_base.specs.SetLaws.{has-with_member, has-common, has-without_member, Ascends-with_member, Ascends-filter}
 use Rattle.cg_base.specs.Lists.{Each}
-use Rattle.cg_group.specs.EachLaws.{Each-append, Each-filter}
+use Rattle.cg_base.specs.EachLaws.{Each-append, Each-filter}
 use Rattle.cg_schedule.specs.declared.event.Event.TheVariants.{Split, Merge}
 use Rattle.cg_gen.specs.Generated.{Drawing, draw, first_of, are_apart, placed, with_cell, cell_at, cell_of, Block, in_half, halved, parting}
 use Rattle.cg_laws.proofs.Calm.{Each-drop}

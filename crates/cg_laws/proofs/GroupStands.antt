@@ -10,7 +10,7 @@ use Rattle.cg_group.specs.declared.delivery.Delivery.TheVariants.{Message}
 use Rattle.cg_group.specs.declared.delivery.Handed.{Handed}
 use Rattle.cg_group.specs.State.{Sent, Configuration, Standing, no_group, no_configuration, standing_of, regular_in, phase_of, configuration, home, unordered_of, delivered_to, set_standing, set_configuration}
 use Rattle.cg_group.specs.Events.{come_up, go_down, send_from, send, send_all, with_receipt, with_message, order_from, order, receive, regulars, order_all, receive_all, gather, delivery_at, deliveries_at, with_delivered, deliver, furthest, transitional_places, handed_in_split, become_transitional, split, become_regular, merge}
-use Rattle.cg_group.specs.EachLaws.{Each-append, Each-all}
+use Rattle.cg_base.specs.EachLaws.{Each-append, Each-all}
 use Rattle.cg_group.specs.LookupLaws.{at_place-changed, unordered_of-set, configuration-set_standing, standing_of-down}
 use Rattle.cg_model.specs.PhaseLaws.{Group, StandAlike, sent-place, gather-place, deliver-place, next_conf}
 use Rattle.cg_laws.proofs.Calm.{CalmMessage, CalmDelivery, Each-map}

@@ -21,7 +21,7 @@ use Rattle.cg_action.specs.declared.command.Cmd.TheVariants.{Put, Inc}
 use Rattle.cg_action.specs.declared.query.Query.{Query}
 use Rattle.cg_action.specs.declared.query.Query.TheVariants.{Get}
 use Rattle.cg_action.specs.declared.value.Value.TheVariants.{Int}
-use Rattle.cg_group.specs.EachLaws.{Each-filter}
+use Rattle.cg_base.specs.EachLaws.{Each-filter}
 use Rattle.cg_schedule.specs.declared.event.Event.{Event}
 use Rattle.cg_schedule.specs.declared.event.Event.TheVariants.{Split, Merge, Gather}
 use Rattle.cg_schedule.specs.declared.reader_state.ReaderState.{ReaderState}

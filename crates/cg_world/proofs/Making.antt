@@ -5,7 +5,7 @@ use Rattle.std.proofs.lemmas.Bool.{cases_eq, cases_lt, cond-true, cond-false, ne
 use Rattle.std.proofs.lemmas.List.{length-append}
 use Rattle.std.proofs.lemmas.List.Elements.{filter-append}
 use Rattle.cg_base.specs.Lists.{Each}
-use Rattle.cg_group.specs.EachLaws.{Each-weaker, Each-append, Each-filter}
+use Rattle.cg_base.specs.EachLaws.{Each-weaker, Each-append, Each-filter}
 use Rattle.cg_base.specs.declared.action_id.ActionId.{ActionId}
 use Rattle.cg_base.specs.Ids.{same_id}
 use Rattle.cg_base.specs.IdLaws.{same_id-true, same_id-false}

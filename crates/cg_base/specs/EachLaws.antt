@@ -1,8 +1,8 @@
 -- What holds of each element of a list, by recursion; and lists made from it.
-use Rattle.std.proofs.Common.{◌≡◌, ℕ, zero, suc, ◌+◌, ◌-◌, ◌<◌, ◌≤◌, Bool, true, false, ◌||◌, List, [], ◌∷◌, ◌++◌, filter, flat_map, refl, sym, ap₂, arith, subst, eq-eqb, eqb-true, true≢false, ⊎_elim}
+use Rattle.std.proofs.Common.{◌≡◌, ℕ, zero, suc, ◌+◌, ◌-◌, ◌<◌, ◌≤◌, Bool, true, false, ◌||◌, ◌&&◌, List, [], ◌∷◌, ◌++◌, IfSome, take, drop, filter, flat_map, refl, sym, ap₂, arith, subst, eq-eqb, eqb-true, true≢false, ⊎_elim}
 use Rattle.std.specs.List.{list_any, list_all}
 use Rattle.cg_base.specs.Lists.{count_up, above_up_to, Each}
-use Rattle.std.specs.Prelude.{◌==◌}
+use Rattle.std.specs.Prelude.{◌==◌, slice_get}
 use Rattle.cg_base.specs.Sets.{has}
 use Rattle.std.proofs.lemmas.Bool.{cond_both, and_parts, and_from, or_right, or_cases}
 
@@ -21,6 +21,32 @@ module _ {X : Type 0} where
   Each-append P [] ys a b = b
   Each-append P (x ∷ xs) ys a b = (a.0, Each-append P xs ys a.1 b)
 
+  -- of both parts of two lists
+  pub Each-front : (P : X → Type 0) (xs ys : List X) → Each P (xs ++ ys) → Each P xs
+  Each-front P [] ys e = tt
+  Each-front P (x ∷ xs) ys e = (e.0, Each-front P xs ys e.1)
+
+  pub Each-rest : (P : X → Type 0) (xs ys : List X) → Each P (xs ++ ys) → Each P ys
+  Each-rest P [] ys e = e
+  Each-rest P (x ∷ xs) ys e = Each-rest P xs ys e.1
+
+  -- of a front, and of what is behind it
+  pub Each-take : (P : X → Type 0) (n : ℕ) (xs : List X) → Each P xs → Each P (take n xs)
+  Each-take P zero xs e = tt
+  Each-take P (suc n) [] e = tt
+  Each-take P (suc n) (x ∷ xs) e = (e.0, Each-take P n xs e.1)
+
+  pub Each-drop : (P : X → Type 0) (n : ℕ) (xs : List X) → Each P xs → Each P (drop n xs)
+  Each-drop P zero xs e = e
+  Each-drop P (suc n) [] e = tt
+  Each-drop P (suc n) (x ∷ xs) e = Each-drop P n xs e.1
+
+  -- of what stands at a place
+  pub Each-get : (P : X → Type 0) (xs : List X) (i : ℕ) → Each P xs → IfSome (slice_get xs i) P
+  Each-get P [] i e = tt
+  Each-get P (x ∷ xs) zero e = e.0
+  Each-get P (x ∷ xs) (suc i) e = Each-get P xs i e.1
+
   pub flat_map_same : {Y : Type 0} (f g : X → List Y) (xs : List X) → Each (λ x. f x ≡ g x) xs →
       flat_map f xs ≡ flat_map g xs
   flat_map_same f g [] e = refl
@@ -37,6 +63,10 @@ module _ {X : Type 0} where
   pub list_any_same : (t u : X → Bool) (xs : List X) → Each (λ x. t x ≡ u x) xs → list_any t xs ≡ list_any u xs
   list_any_same t u [] e = refl
   list_any_same t u (x ∷ xs) e = ap₂ ◌||◌ e.0 (list_any_same t u xs e.1)
+
+  pub list_all_same : (t u : X → Bool) → ((x : X) → t x ≡ u x) → (xs : List X) → list_all t xs ≡ list_all u xs
+  list_all_same t u e [] = refl
+  list_all_same t u e (x ∷ xs) = ap₂ ◌&&◌ (e x) (list_all_same t u e xs)
 
   pub list_all_kept_by : (t u : X → Bool) → ((x : X) → t x ≡ true → u x ≡ true) → (xs : List X) →
       list_all t xs ≡ true → list_all u xs ≡ true
