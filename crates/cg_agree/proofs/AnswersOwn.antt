@@ -22,10 +22,10 @@ use Rattle.cg_group.specs.State.{Sent, phase_of, delivered_to}
 use Rattle.cg_client.specs.Replica.{Held, State, ExchangeStates, ExchangeActions, NonPrim, Left, Replica}
 use Rattle.cg_client.specs.Turn.{Turn, begin, go_to, with_held}
 use Rattle.cg_client.specs.Requests.{empty_buffer}
-use Rattle.cg_exchange.specs.ExchangeActions.{progress, take_item, send_part, go_on}
-use Rattle.cg_exchange.specs.ExchangeStates.{is_usable, with_heard}
-use Rattle.cg_exchange.specs.PlanEnd.{take_over, attempt, decide, end_plan}
-use Rattle.cg_model.specs.ReplicaStep.{on_message}
+use Rattle.cg_states.specs.ExchangeActions.{progress, take_item, send_part, go_on}
+use Rattle.cg_states.specs.ExchangeStates.{is_usable, with_heard}
+use Rattle.cg_states.specs.PlanEnd.{take_over, attempt, decide, end_plan}
+use Rattle.cg_states.specs.ReplicaStep.{on_message}
 use Rattle.cg_model.specs.World.{replica_of}
 use Rattle.cg_model.specs.Chronicle.{Told, Chronicle}
 use Rattle.cg_model.specs.Looks.{greens_of, members_in, ordered_in}

@@ -17,7 +17,7 @@ use Rattle.cg_client.specs.Turn.{begin}
 use Rattle.cg_client.specs.Requests.{settle}
 use Rattle.cg_disk_records.specs.Stored.{whiten, recovery_turn}
 use Rattle.cg_disk_records.specs.Crash.{Disk}
-use Rattle.cg_model.specs.ReplicaStep.{on_message}
+use Rattle.cg_states.specs.ReplicaStep.{on_message}
 use Rattle.cg_model.specs.World.{Up, Node, node_of, replica_of, running}
 use Rattle.cg_model.specs.Chronicle.{Told, Attempt, Chronicle, no_chronicle}
 use Rattle.cg_model.specs.Step.{joiner_replica}

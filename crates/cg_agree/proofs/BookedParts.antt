@@ -25,10 +25,10 @@ use Rattle.cg_client.specs.Requests.{empty_buffer}
 use Rattle.cg_client.specs.Marks.{is_unmade, marked, mark_red, can_be_green, place_green, mark_green}
 use Rattle.cg_client.specs.Install.{actions_named, valid_yellow}
 use Rattle.cg_client.specs.Queries.{plain_reds}
-use Rattle.cg_exchange.specs.ExchangeStates.{is_usable, with_heard}
-use Rattle.cg_exchange.specs.ExchangeActions.{progress, is_next, mark_item, take_item, send_part, go_on}
-use Rattle.cg_exchange.specs.PlanEnd.{take_over, attempt, decide, end_plan}
-use Rattle.cg_model.specs.ReplicaStep.{on_message}
+use Rattle.cg_states.specs.ExchangeStates.{is_usable, with_heard}
+use Rattle.cg_states.specs.ExchangeActions.{progress, is_next, mark_item, take_item, send_part, go_on}
+use Rattle.cg_states.specs.PlanEnd.{take_over, attempt, decide, end_plan}
+use Rattle.cg_states.specs.ReplicaStep.{on_message}
 use Rattle.cg_model.specs.Chronicle.{Chronicle}
 use Rattle.cg_model.specs.Looks.{greens_of, ordered_in}
 use Rattle.cg_model.specs.Talk.{action_in}

@@ -26,12 +26,12 @@ use Rattle.cg_client.specs.Marks.{mark_red, mark_yellow}
 use Rattle.cg_client.specs.Install.{install}
 use Rattle.cg_client.specs.Requests.{settle}
 use Rattle.cg_plan.specs.Progress.{is_done}
-use Rattle.cg_exchange.specs.ExchangeStates.{is_usable, with_heard}
-use Rattle.cg_exchange.specs.ExchangeActions.{progress, is_next, mark_item, take_item, go_on}
-use Rattle.cg_construct.specs.Construct.{attempt_set, is_announced}
-use Rattle.cg_construct.specs.No.{no_with}
+use Rattle.cg_states.specs.ExchangeStates.{is_usable, with_heard}
+use Rattle.cg_states.specs.ExchangeActions.{progress, is_next, mark_item, take_item, go_on}
+use Rattle.cg_states.specs.Construct.{attempt_set, is_announced}
+use Rattle.cg_states.specs.No.{no_with}
 use Rattle.cg_disk_records.specs.Crash.{Disk}
-use Rattle.cg_model.specs.ReplicaStep.{on_message, on_transitional, after_delivery}
+use Rattle.cg_states.specs.ReplicaStep.{on_message, on_transitional, after_delivery}
 use Rattle.cg_model.specs.World.{Up, Node, node_of, replica_of, running}
 use Rattle.cg_model.specs.Chronicle.{Chronicle}
 use Rattle.cg_knowledge.specs.Verdict.{decides}

@@ -15,7 +15,7 @@ use Rattle.cg_group.specs.Events.{delivery_at, deliveries_at}
 use Rattle.cg_group.specs.State.{GroupState, Configuration, Sent, phase_of, regular_in, home}
 use Rattle.cg_client.specs.Replica.{State, RegPrim, TransPrim, Replica}
 use Rattle.cg_client.specs.Turn.{Turn, begin}
-use Rattle.cg_model.specs.ReplicaStep.{on_message, on_transitional, after_delivery as take_one}
+use Rattle.cg_states.specs.ReplicaStep.{on_message, on_transitional, after_delivery as take_one}
 use Rattle.cg_disk_records.specs.Crash.{Disk}
 use Rattle.cg_model.specs.World.{Node, replica_of, running}
 use Rattle.cg_model.specs.Chronicle.{Attempt, Chronicle}

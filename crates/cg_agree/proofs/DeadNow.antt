@@ -12,7 +12,7 @@ use Rattle.cg_group.specs.declared.phase.Phase.TheVariants.{Down, Alone, Regular
 use Rattle.cg_group.specs.State.{phase_of, has_received, delivered_to}
 use Rattle.cg_group.specs.Ready.{all_received}
 use Rattle.cg_client.specs.Replica.{State, RegPrim, TransPrim, ExchangeStates, ExchangeActions, Construct, No, Un, NonPrim, Left, Replica}
-use Rattle.cg_construct.specs.Construct.{attempt_set}
+use Rattle.cg_states.specs.Construct.{attempt_set}
 use Rattle.cg_knowledge.specs.Summaries.{gone}
 use Rattle.cg_knowledge.specs.Verdict.{decides}
 use Rattle.cg_model.specs.World.{replica_of}

@@ -20,7 +20,7 @@ use Rattle.cg_report.specs.declared.entry.Reply.{Reply}
 use Rattle.cg_client.specs.Replica.{Held, Replica, NonPrim, fresh}
 use Rattle.cg_client.specs.Turn.{begin}
 use Rattle.cg_disk_records.specs.Stored.{recovery_turn as recover_disk}
-use Rattle.cg_model.specs.ReplicaStep.{Input, Deliveries, Asks as AsksOf, replica_step}
+use Rattle.cg_states.specs.ReplicaStep.{Input, Deliveries, Asks as AsksOf, replica_step}
 use Rattle.cg_disk_records.specs.Crash.{Strike, Disk, at_rest, new_disk, recovered, disk_recovered, end_event}
 use Rattle.cg_schedule.specs.declared.event.Event.{Event}
 use Rattle.cg_schedule.specs.declared.event.Event.TheVariants.{Start}

@@ -11,7 +11,7 @@ use Rattle.cg_group.specs.declared.delivery.Delivery.TheVariants.{Regular as Reg
 use Rattle.cg_group.specs.State.{delivered_to, home}
 use Rattle.cg_group.specs.Events.{deliveries_at, handed_in_split, deliver, split, merge}
 use Rattle.cg_client.specs.Replica.{Held, Replica}
-use Rattle.cg_model.specs.ReplicaStep.{Deliveries}
+use Rattle.cg_states.specs.ReplicaStep.{Deliveries}
 use Rattle.cg_disk_records.specs.Crash.{FailOnce, StopWith, Disk}
 use Rattle.cg_base.specs.declared.action_id.ActionId.{ActionId}
 use Rattle.cg_schedule.specs.declared.event.Event.{Event}

@@ -21,9 +21,9 @@ use Rattle.cg_client.specs.Replica.{Held, State, RegPrim, TransPrim, ExchangeSta
 use Rattle.cg_client.specs.Install.{install}
 use Rattle.cg_client.specs.Turn.{Turn, begin, go_to}
 use Rattle.cg_client.specs.Marks.{is_unmade, marked, mark_red}
-use Rattle.cg_construct.specs.Construct.{attempt_set, is_announced, construct_with}
-use Rattle.cg_construct.specs.No.{no_with}
-use Rattle.cg_model.specs.ReplicaStep.{on_message, after_delivery as take_delivery}
+use Rattle.cg_states.specs.Construct.{attempt_set, is_announced, construct_with}
+use Rattle.cg_states.specs.No.{no_with}
+use Rattle.cg_states.specs.ReplicaStep.{on_message, after_delivery as take_delivery}
 use Rattle.cg_model.specs.FactsReplica.{is_exchanging}
 use Rattle.cg_model.specs.World.{replica_of}
 use Rattle.cg_model.specs.Chronicle.{Told, Chronicle}

@@ -15,7 +15,7 @@ use Rattle.cg_group.specs.declared.phase.Phase.TheVariants.{Regular}
 use Rattle.cg_group.specs.State.{Sent, phase_of, delivered_to}
 use Rattle.cg_client.specs.Replica.{Held, ExchangeActions, Replica}
 use Rattle.cg_client.specs.Turn.{Turn, begin}
-use Rattle.cg_exchange.specs.ExchangeActions.{take_item}
+use Rattle.cg_states.specs.ExchangeActions.{take_item}
 use Rattle.cg_model.specs.World.{replica_of}
 use Rattle.cg_model.specs.Chronicle.{Told, Chronicle}
 use Rattle.cg_model.specs.Fronts.{IsSomeWith}

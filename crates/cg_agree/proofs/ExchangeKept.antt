@@ -17,10 +17,10 @@ use Rattle.cg_wire.specs.declared.message.Msg.TheVariants.{Action as ActionMsg, 
 use Rattle.cg_client.specs.Replica.{State, RegPrim, ExchangeStates, ExchangeActions, Construct, NonPrim, Left, Replica}
 use Rattle.cg_client.specs.Turn.{Turn, begin, go_to, with_held}
 use Rattle.cg_client.specs.Requests.{empty_buffer}
-use Rattle.cg_exchange.specs.ExchangeStates.{is_usable, with_heard}
-use Rattle.cg_exchange.specs.ExchangeActions.{progress, take_item, send_part, go_on}
-use Rattle.cg_exchange.specs.PlanEnd.{take_over, attempt, decide, end_plan}
-use Rattle.cg_model.specs.ReplicaStep.{on_message}
+use Rattle.cg_states.specs.ExchangeStates.{is_usable, with_heard}
+use Rattle.cg_states.specs.ExchangeActions.{progress, take_item, send_part, go_on}
+use Rattle.cg_states.specs.PlanEnd.{take_over, attempt, decide, end_plan}
+use Rattle.cg_states.specs.ReplicaStep.{on_message}
 use Rattle.cg_model.specs.FactsReplica.{is_exchanging}
 use Rattle.cg_model.specs.World.{replica_of}
 use Rattle.cg_model.specs.Chronicle.{Told, Chronicle}

@@ -27,7 +27,7 @@ use Rattle.cg_group.specs.State.{Sent, phase_of, delivered_to}
 use Rattle.cg_client.specs.Replica.{Held, ExchangeStates, ExchangeActions, Replica}
 use Rattle.cg_client.specs.Turn.{Turn, begin}
 use Rattle.cg_client.specs.Marks.{is_unmade, marked, mark_red, can_be_green, place_green, mark_green}
-use Rattle.cg_exchange.specs.ExchangeActions.{progress, mark_item, take_item}
+use Rattle.cg_states.specs.ExchangeActions.{progress, mark_item, take_item}
 use Rattle.cg_model.specs.World.{Node, NodeState, Up, Down, node_of, replica_of, running}
 use Rattle.cg_model.specs.Attempts.{held_in}
 use Rattle.cg_model.specs.Chronicle.{Told, Chronicle}

@@ -17,7 +17,7 @@ use Rattle.cg_report.specs.declared.entry.Reply.{Reply}
 use Rattle.cg_client.specs.Replica.{Replica, created}
 use Rattle.cg_client.specs.Turn.{Turn}
 use Rattle.cg_client.specs.Marks.{is_first, after_owed, reply_to, given_to}
-use Rattle.cg_model.specs.ReplicaStep.{replica_step}
+use Rattle.cg_states.specs.ReplicaStep.{replica_step}
 use Rattle.cg_disk_records.specs.Crash.{Disk, EventEnd, Runs, Crashes, end_event}
 use Rattle.cg_model.specs.World.{Node, World, has_begun, running, node_of, replica_of}
 use Rattle.cg_model.specs.Show.{StepInProgress}

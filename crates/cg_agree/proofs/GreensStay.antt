@@ -25,13 +25,13 @@ use Rattle.cg_client.specs.Marks.{is_unmade, can_be_green, marked, mark_red, mar
 use Rattle.cg_client.specs.Summary.{redden, own_to_red, enter_exchange}
 use Rattle.cg_client.specs.Install.{install}
 use Rattle.cg_client.specs.Requests.{is_creating, create, create_kept, empty_buffer, settle}
-use Rattle.cg_prim.specs.TransPrim.{end_prim}
-use Rattle.cg_exchange.specs.PlanEnd.{take_over, attempt, decide, end_plan}
-use Rattle.cg_exchange.specs.ExchangeActions.{send_part, progress, go_on, is_next, mark_item, take_item}
-use Rattle.cg_exchange.specs.ExchangeStates.{is_usable, with_heard}
-use Rattle.cg_construct.specs.Construct.{attempt_set, is_announced, construct_with}
-use Rattle.cg_construct.specs.No.{no_record, no_with}
-use Rattle.cg_model.specs.ReplicaStep.{Deliveries, replica_step, on_message, on_transitional, on_regular, after_delivery}
+use Rattle.cg_states.specs.TransPrim.{end_prim}
+use Rattle.cg_states.specs.PlanEnd.{take_over, attempt, decide, end_plan}
+use Rattle.cg_states.specs.ExchangeActions.{send_part, progress, go_on, is_next, mark_item, take_item}
+use Rattle.cg_states.specs.ExchangeStates.{is_usable, with_heard}
+use Rattle.cg_states.specs.Construct.{attempt_set, is_announced, construct_with}
+use Rattle.cg_states.specs.No.{no_record, no_with}
+use Rattle.cg_states.specs.ReplicaStep.{Deliveries, replica_step, on_message, on_transitional, on_regular, after_delivery}
 use Rattle.cg_model.specs.FactsReplica.{is_primary}
 use Rattle.cg_agree_lemmas.specs.GreenMembers.{SameMembers, redden-same, own-same, creates-same}
 use Rattle.cg_agree.proofs.ItemsReached.{IsItemWithin}

@@ -17,7 +17,7 @@ use Rattle.cg_group.specs.Events.{delivery_at, with_delivered}
 use Rattle.cg_client.specs.Replica.{State, RegPrim, Replica}
 use Rattle.cg_client.specs.Turn.{Turn, begin}
 use Rattle.cg_client.specs.Marks.{can_be_green, mark_green, place_green}
-use Rattle.cg_model.specs.ReplicaStep.{after_delivery as take_one, on_message}
+use Rattle.cg_states.specs.ReplicaStep.{after_delivery as take_one, on_message}
 use Rattle.cg_disk_records.specs.Crash.{Disk}
 use Rattle.cg_group.specs.LookupLaws.{at-cond, eqb_comm}
 use Rattle.cg_model.specs.World.{Up, Node, node_of, replica_of, running}

@@ -19,9 +19,9 @@ use Rattle.cg_client.specs.Turn.{Turn, begin, go_to}
 use Rattle.cg_client.specs.Requests.{is_creating}
 use Rattle.cg_client.specs.Install.{install}
 use Rattle.cg_client.specs.Marks.{after_first}
-use Rattle.cg_construct.specs.Construct.{attempt_set, is_announced, construct_with}
+use Rattle.cg_states.specs.Construct.{attempt_set, is_announced, construct_with}
 use Rattle.cg_queue.specs.Queue.{names_of}
-use Rattle.cg_model.specs.ReplicaStep.{on_message}
+use Rattle.cg_states.specs.ReplicaStep.{on_message}
 use Rattle.cg_disk_records.specs.Crash.{Disk}
 use Rattle.cg_model.specs.World.{Node, replica_of, running}
 use Rattle.cg_model.specs.Chronicle.{Attempt, Chronicle}

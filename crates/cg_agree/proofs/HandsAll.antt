@@ -13,7 +13,7 @@ use Rattle.cg_group.specs.Ready.{ready}
 use Rattle.cg_group.specs.State.{Sent, phase_of, is_regular, delivered_to}
 use Rattle.cg_client.specs.Replica.{State, ExchangeStates, ExchangeActions, Replica}
 use Rattle.cg_client.specs.Turn.{begin}
-use Rattle.cg_model.specs.ReplicaStep.{on_message}
+use Rattle.cg_states.specs.ReplicaStep.{on_message}
 use Rattle.cg_disk_records.specs.Crash.{Disk}
 use Rattle.cg_model.specs.World.{Node, replica_of, running}
 use Rattle.cg_model.specs.Chronicle.{Chronicle}

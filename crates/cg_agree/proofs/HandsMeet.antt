@@ -26,9 +26,9 @@ use Rattle.cg_group.specs.State.{Sent, phase_of, delivered_to}
 use Rattle.cg_client.specs.Replica.{Held, State, RegPrim, ExchangeStates, Construct, NonPrim, Left, Replica}
 use Rattle.cg_client.specs.Turn.{Turn, begin}
 use Rattle.cg_client.specs.Marks.{is_unmade, can_be_green, mark_red, mark_green_at}
-use Rattle.cg_construct.specs.Construct.{attempt_set}
-use Rattle.cg_exchange.specs.ExchangeActions.{progress, take_item}
-use Rattle.cg_exchange.specs.PlanEnd.{usable_names}
+use Rattle.cg_states.specs.Construct.{attempt_set}
+use Rattle.cg_states.specs.ExchangeActions.{progress, take_item}
+use Rattle.cg_states.specs.PlanEnd.{usable_names}
 use Rattle.cg_model.specs.World.{replica_of}
 use Rattle.cg_model.specs.Chronicle.{Chronicle}
 use Rattle.cg_model.specs.Facts.{Invariant}

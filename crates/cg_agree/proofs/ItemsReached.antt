@@ -18,7 +18,7 @@ use Rattle.cg_plan.specs.Progress.{next_item, is_wanted}
 use Rattle.cg_wire.specs.declared.message.Msg.{Msg}
 use Rattle.cg_wire.specs.declared.message.Msg.TheVariants.{Action as ActionMsg, State as StateMsg, GreenItem, RedItem, Cpc}
 use Rattle.cg_group.specs.State.{GroupState, Sent, configuration}
-use Rattle.cg_exchange.specs.ExchangeActions.{progress}
+use Rattle.cg_states.specs.ExchangeActions.{progress}
 use Rattle.cg_model.specs.World.{World}
 use Rattle.cg_model.specs.Chronicle.{Told, Chronicle}
 use Rattle.cg_model.specs.Looks.{told_in, members_in, ordered_in}

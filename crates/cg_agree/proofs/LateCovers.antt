@@ -59,7 +59,7 @@ use Rattle.cg_base.specs.Sets.{has}
 use Rattle.cg_client.specs.Replica.{Construct, Replica, State, TransPrim}
 use Rattle.cg_client.specs.Requests.{is_creating}
 use Rattle.cg_client.specs.Turn.{Turn, begin}
-use Rattle.cg_construct.specs.Construct.{attempt_set}
+use Rattle.cg_states.specs.Construct.{attempt_set}
 use Rattle.cg_group.specs.Events.{deliveries_at, delivery_at}
 use Rattle.cg_group.specs.State.{Configuration, Sent, configuration, delivered_to, has_received, home, phase_of, regular_in}
 use Rattle.cg_group.specs.declared.delivery.Delivery.TheVariants.{Message}
@@ -70,7 +70,7 @@ use Rattle.cg_knowledge.specs.Verdict.{decides}
 use Rattle.cg_queue.specs.Queue.{names_of}
 use Rattle.cg_records.specs.declared.vulnerable.Vulnerable.{Vulnerable}
 use Rattle.cg_disk_records.specs.Crash.{Disk}
-use Rattle.cg_model.specs.ReplicaStep.{on_transitional, after_delivery as take_one}
+use Rattle.cg_states.specs.ReplicaStep.{on_transitional, after_delivery as take_one}
 use Rattle.cg_wire.specs.declared.message.Msg.{Msg}
 
 module _ (c : Chronicle) (i : Invariant c) (p : ℕ) (r : Replica) (ins : Installing c p r) (attempting : is_attempting r.state ≡ true) where

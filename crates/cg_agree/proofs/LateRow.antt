@@ -25,12 +25,12 @@ use Rattle.cg_client.specs.Install.{install}
 use Rattle.cg_client.specs.Marks.{mark_yellow, marked}
 use Rattle.cg_client.specs.Replica.{Held, No, Replica, State, TransPrim, Un}
 use Rattle.cg_client.specs.Turn.{Turn, go_to}
-use Rattle.cg_construct.specs.Construct.{attempt_set, is_announced}
-use Rattle.cg_construct.specs.No.{no_with}
+use Rattle.cg_states.specs.Construct.{attempt_set, is_announced}
+use Rattle.cg_states.specs.No.{no_with}
 use Rattle.cg_knowledge.specs.Summaries.{remaining}
 use Rattle.cg_knowledge.specs.Verdict.{decides}
 use Rattle.cg_queue.specs.Queue.{marked_yellow, names_of}
-use Rattle.cg_model.specs.ReplicaStep.{on_message}
+use Rattle.cg_states.specs.ReplicaStep.{on_message}
 use Rattle.cg_wire.specs.declared.message.Msg.{Msg}
 use Rattle.cg_wire.specs.declared.message.Msg.TheVariants.{Action as ActionMsg, Cpc, GreenItem, RedItem, State as StateMsg}
 

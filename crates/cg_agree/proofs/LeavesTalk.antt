@@ -17,8 +17,8 @@ use Rattle.cg_group.specs.State.{Sent, Configuration, GroupState, phase_of, is_r
 use Rattle.cg_group.specs.Events.{deliveries_at}
 use Rattle.cg_client.specs.Replica.{Held, State, RegPrim, TransPrim, ExchangeStates, ExchangeActions, Construct, No, Un, NonPrim, Left, Replica}
 use Rattle.cg_client.specs.Turn.{Turn, begin}
-use Rattle.cg_construct.specs.Construct.{attempt_set}
-use Rattle.cg_model.specs.ReplicaStep.{on_transitional, after_delivery as take_one}
+use Rattle.cg_states.specs.Construct.{attempt_set}
+use Rattle.cg_states.specs.ReplicaStep.{on_transitional, after_delivery as take_one}
 use Rattle.cg_disk_records.specs.Crash.{Disk}
 use Rattle.cg_model.specs.World.{Up, Node, node_of, replica_of, running}
 use Rattle.cg_model.specs.Chronicle.{Chronicle}

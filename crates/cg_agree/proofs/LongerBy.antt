@@ -13,7 +13,7 @@ use Rattle.cg_group.specs.State.{Sent, Configuration, configuration, regular_in,
 use Rattle.cg_group.specs.Events.{delivery_at, deliveries_at, transitional_places, furthest, handed_in_split, deliver, split, merge}
 use Rattle.cg_client.specs.Replica.{Replica}
 use Rattle.cg_disk_records.specs.Stored.{whiten}
-use Rattle.cg_model.specs.ReplicaStep.{Input, Deliveries, replica_step}
+use Rattle.cg_states.specs.ReplicaStep.{Input, Deliveries, replica_step}
 use Rattle.cg_disk_records.specs.Crash.{whitened, new_disk}
 use Rattle.cg_schedule.specs.declared.event.Event.{Event}
 use Rattle.cg_schedule.specs.declared.event.Event.TheVariants.{Start, Split, Merge, Request, Weak, Dirty, Order, Recover, RecoverStopped, Downgrade, Show, ShowOrder, Gather, End, Receive, Deliver, Rounds, Stop, Fail, Join, Leave, Transfer}

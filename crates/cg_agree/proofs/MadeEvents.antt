@@ -14,7 +14,7 @@ use Rattle.cg_group.specs.declared.delivery.Delivery.TheVariants.{Regular as Reg
 use Rattle.cg_group.specs.State.{delivered_to, home}
 use Rattle.cg_group.specs.Events.{order, receive, gather, deliveries_at, handed_in_split, deliver, split, merge}
 use Rattle.cg_client.specs.Replica.{Held, Replica, fresh}
-use Rattle.cg_model.specs.ReplicaStep.{Input, Deliveries, Asks as AsksOf}
+use Rattle.cg_states.specs.ReplicaStep.{Input, Deliveries, Asks as AsksOf}
 use Rattle.cg_disk_records.specs.Crash.{FailOnce, StopWith, Strike, at_rest, new_disk}
 use Rattle.cg_schedule.specs.declared.event.Event.{Event}
 use Rattle.cg_schedule.specs.declared.event.Event.TheVariants.{Start, Split, Merge, Request, Weak, Dirty, Order, Recover, RecoverStopped, Downgrade, Show, ShowOrder, Gather, End, Receive, Deliver, Rounds, Stop, Fail, Join, Leave, Transfer}

@@ -13,7 +13,7 @@ use Rattle.cg_group.specs.Events.{furthest, handed_in_split, deliveries_at, deli
 use Rattle.cg_base.specs.EachLaws.{Each-append, Each-at}
 use Rattle.cg_group.specs.declared.delivery.Delivery.TheVariants.{Regular as RegularIn}
 use Rattle.cg_client.specs.Replica.{Held, Replica}
-use Rattle.cg_model.specs.ReplicaStep.{Input, Deliveries, Asks as AsksOf}
+use Rattle.cg_states.specs.ReplicaStep.{Input, Deliveries, Asks as AsksOf}
 use Rattle.cg_schedule.specs.declared.event.Event.{Event}
 use Rattle.cg_schedule.specs.declared.event.Event.TheVariants.{Start, Split, Merge, Request, Weak, Dirty, Order, Recover, RecoverStopped, Downgrade, Show, ShowOrder, Gather, End, Receive, Deliver, Rounds, Stop, Fail, Join, Leave, Transfer}
 use Rattle.cg_model.specs.World.{Node, running, World, replica_of, left_replicas}

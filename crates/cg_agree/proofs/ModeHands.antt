@@ -16,7 +16,7 @@ use Rattle.cg_group.specs.State.{Sent, phase_of, delivered_to}
 use Rattle.cg_group.specs.Events.{delivery_at}
 use Rattle.cg_client.specs.Replica.{Held, State, RegPrim, TransPrim, ExchangeStates, ExchangeActions, Construct, No, Un, NonPrim, Left, Replica}
 use Rattle.cg_client.specs.Turn.{Turn, begin}
-use Rattle.cg_model.specs.ReplicaStep.{on_message, after_delivery}
+use Rattle.cg_states.specs.ReplicaStep.{on_message, after_delivery}
 use Rattle.cg_model.specs.World.{replica_of}
 use Rattle.cg_model.specs.Chronicle.{Attempt, Chronicle}
 use Rattle.cg_model.specs.Looks.{greens_of, conf_at, members_in, attempt_of, top_of}

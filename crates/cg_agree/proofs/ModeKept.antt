@@ -18,7 +18,7 @@ use Rattle.cg_client.specs.Turn.{Turn, begin}
 use Rattle.cg_client.specs.Requests.{settle}
 use Rattle.cg_disk_records.specs.Stored.{stored_of, whiten, recovery_turn}
 use Rattle.cg_disk_records.specs.Crash.{Disk, new_disk, at_rest, recovered, disk_recovered}
-use Rattle.cg_model.specs.ReplicaStep.{on_transitional, after_delivery}
+use Rattle.cg_states.specs.ReplicaStep.{on_transitional, after_delivery}
 use Rattle.cg_model.specs.World.{NodeState, Up, Down, Node, World, TransferState, with_node, node_of, replica_of, running, has_begun, is_left}
 use Rattle.cg_model.specs.Step.{joiner_replica, without_snapshot}
 use Rattle.cg_model.specs.Chronicle.{Attempt, Chronicle, no_chronicle}

@@ -13,8 +13,8 @@ use Rattle.cg_group.specs.declared.phase.Phase.{Phase}
 use Rattle.cg_client.specs.Replica.{Held, State, RegPrim, TransPrim, ExchangeStates, ExchangeActions, Construct, No, Un, NonPrim, Left, Replica}
 use Rattle.cg_client.specs.Turn.{Turn, go_to}
 use Rattle.cg_client.specs.Install.{install}
-use Rattle.cg_construct.specs.Construct.{attempt_set, is_announced}
-use Rattle.cg_model.specs.ReplicaStep.{on_message}
+use Rattle.cg_states.specs.Construct.{attempt_set, is_announced}
+use Rattle.cg_states.specs.ReplicaStep.{on_message}
 use Rattle.cg_model.specs.Chronicle.{Attempt, Chronicle}
 use Rattle.cg_model.specs.Looks.{conf_at, attempt_of}
 use Rattle.cg_model.specs.Levels.{is_record_of}

@@ -41,7 +41,7 @@ use Rattle.cg_group.specs.State.{GroupState}
 use Rattle.cg_group.specs.declared.delivery.Handed.{Handed}
 use Rattle.cg_queue.specs.Queue.{green_count, names_of}
 use Rattle.cg_disk_records.specs.Crash.{Disk, EventEnd, at_rest, disk_recovered, end_event, recovered, whitened}
-use Rattle.cg_model.specs.ReplicaStep.{Deliveries, Input, replica_step}
+use Rattle.cg_states.specs.ReplicaStep.{Deliveries, Input, replica_step}
 use Rattle.cg_disk_records.specs.Stored.{whiten}
 use Rattle.cg_wire.specs.declared.message.Msg.{Msg}
 

@@ -1,5 +1,5 @@
 -- The printed order is kept by each event: it stays on the newest level's line, and no action stands in it before it was shown as made.
-use Rattle.cg_model.specs.ReplicaStep.{Input, Deliveries, Asks as AsksOf}
+use Rattle.cg_states.specs.ReplicaStep.{Input, Deliveries, Asks as AsksOf}
 use Rattle.cg_group.specs.Events.{order as order_group, receive, gather, deliveries_at, handed_in_split, deliver, split, merge}
 use Rattle.cg_action.specs.declared.action.Kind.TheVariants.{Update, Join as JoinKind, Leave as LeaveKind}
 use Rattle.cg_schedule.specs.declared.event.Event.{Event}

@@ -1,5 +1,5 @@
 -- While a replica is down nobody else has an action of it that wasn't shown as made: what the turns of an event make of that.
-use Rattle.cg_model.specs.ReplicaStep.{Input, Deliveries, Asks, replica_step, after_delivery}
+use Rattle.cg_states.specs.ReplicaStep.{Input, Deliveries, Asks, replica_step, after_delivery}
 use Rattle.cg_model.specs.FactsBooks.{AreShown, HoldsFine, IsActionShown, IsMessageShown, IsNameShown, LifeShown, NodeShown}
 use Rattle.cg_model.specs.Step.{after_event, hand_to, hand, hand_over}
 use Rattle.cg_agree_lemmas.specs.TurnRows.{OfDelivery, of-deliveries}

@@ -11,7 +11,7 @@ use Rattle.cg_queue.specs.Queue.{names_of}
 use Rattle.cg_client.specs.Replica.{Held, Replica, created}
 use Rattle.cg_client.specs.Turn.{Turn}
 use Rattle.cg_disk_records.specs.Stored.{whiten}
-use Rattle.cg_model.specs.ReplicaStep.{replica_step}
+use Rattle.cg_states.specs.ReplicaStep.{replica_step}
 use Rattle.cg_disk_records.specs.Crash.{Disk, EventEnd, Runs, Crashes, whitened}
 use Rattle.cg_model.specs.World.{NodeState, Up, Down, Node, World, no_world, running, node_of, replica_of}
 use Rattle.cg_model.specs.Show.{StepInProgress, Moved, line_of, up_line}

@@ -25,7 +25,7 @@ use Rattle.cg_client.specs.Replica.{State, RegPrim, TransPrim, Replica, created,
 use Rattle.cg_client.specs.Requests.{is_creating}
 use Rattle.cg_client.specs.Turn.{Turn, begin, go_to}
 use Rattle.cg_client.specs.Marks.{is_unmade, mark_yellow, mark_red, marked, after_first}
-use Rattle.cg_model.specs.ReplicaStep.{on_message, after_delivery as take_one, on_transitional}
+use Rattle.cg_states.specs.ReplicaStep.{on_message, after_delivery as take_one, on_transitional}
 use Rattle.cg_model.specs.World.{replica_of}
 use Rattle.cg_model.specs.Chronicle.{Chronicle, Attempt}
 use Rattle.cg_model.specs.Facts.{Invariant}
@@ -55,8 +55,8 @@ use Rattle.cg_plan.specs.declared.parts.Item.TheVariants.{Green, Red}
 use Rattle.cg_records.specs.declared.vulnerable.Vulnerable.{Vulnerable}
 use Rattle.cg_group.specs.Ready.{all_received}
 use Rattle.cg_client.specs.Install.{install}
-use Rattle.cg_construct.specs.Construct.{attempt_set, is_announced}
-use Rattle.cg_construct.specs.No.{no_with}
+use Rattle.cg_states.specs.Construct.{attempt_set, is_announced}
+use Rattle.cg_states.specs.No.{no_with}
 use Rattle.cg_model.specs.FactsNet.{IsPhase}
 use Rattle.cg_model.specs.Fronts.{When}
 use Rattle.cg_model.specs.Levels.{announced_at, lacks_announcement, is_installed}

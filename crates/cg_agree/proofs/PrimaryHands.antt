@@ -13,7 +13,7 @@ use Rattle.cg_group.specs.State.{Configuration, phase_of, delivered_to}
 use Rattle.cg_client.specs.Replica.{State, RegPrim, Replica}
 use Rattle.cg_client.specs.Turn.{begin}
 use Rattle.cg_client.specs.Marks.{can_be_green, mark_green}
-use Rattle.cg_model.specs.ReplicaStep.{on_message}
+use Rattle.cg_states.specs.ReplicaStep.{on_message}
 use Rattle.cg_model.specs.Chronicle.{Past, Attempt, Chronicle}
 use Rattle.cg_model.specs.Looks.{past_of, greens_of, conf_at, ordered_in, attempt_at, installation}
 use Rattle.cg_model.specs.Talk.{Talk, no_talk, hears_from, hears, act_in, acts_in}

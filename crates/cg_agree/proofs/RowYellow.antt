@@ -23,7 +23,7 @@ use Rattle.cg_client.specs.Replica.{State, RegPrim, TransPrim, Replica, created}
 use Rattle.cg_client.specs.Requests.{is_creating}
 use Rattle.cg_client.specs.Turn.{Turn, begin, go_to}
 use Rattle.cg_client.specs.Marks.{is_unmade, marked, mark_yellow}
-use Rattle.cg_model.specs.ReplicaStep.{on_message, on_transitional, after_delivery as take_one}
+use Rattle.cg_states.specs.ReplicaStep.{on_message, on_transitional, after_delivery as take_one}
 use Rattle.cg_model.specs.World.{replica_of}
 use Rattle.cg_model.specs.Chronicle.{Chronicle}
 use Rattle.cg_model.specs.Fronts.{Front}

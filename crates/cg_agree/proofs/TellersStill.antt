@@ -16,7 +16,7 @@ use Rattle.cg_group.specs.declared.phase.Phase.TheVariants.{Down as DownPhase, A
 use Rattle.cg_client.specs.Replica.{State, RegPrim, TransPrim, ExchangeStates, ExchangeActions, Construct, No, Un, NonPrim, Left, Replica}
 use Rattle.cg_client.specs.Turn.{Turn, begin}
 use Rattle.cg_client.specs.Requests.{is_creating, create_kept, empty_buffer, request_in, settle}
-use Rattle.cg_model.specs.ReplicaStep.{on_transitional, after_delivery}
+use Rattle.cg_states.specs.ReplicaStep.{on_transitional, after_delivery}
 use Rattle.cg_disk_records.specs.Crash.{Disk}
 use Rattle.cg_model.specs.World.{NodeState, Up, Down, Node, node_of, replica_of, has_begun}
 use Rattle.cg_model.specs.Chronicle.{Past, Told, Chronicle}

@@ -13,9 +13,9 @@ use Rattle.cg_group.specs.State.{phase_of, configuration}
 use Rattle.cg_client.specs.Replica.{State, RegPrim, TransPrim, ExchangeStates, ExchangeActions, Construct, No, Un, NonPrim, Left, Replica}
 use Rattle.cg_client.specs.Turn.{Turn, begin, with_held}
 use Rattle.cg_client.specs.Summary.{summary_of, enter_exchange}
-use Rattle.cg_prim.specs.TransPrim.{end_prim}
-use Rattle.cg_construct.specs.No.{no_record}
-use Rattle.cg_model.specs.ReplicaStep.{on_regular, after_delivery}
+use Rattle.cg_states.specs.TransPrim.{end_prim}
+use Rattle.cg_states.specs.No.{no_record}
+use Rattle.cg_states.specs.ReplicaStep.{on_regular, after_delivery}
 use Rattle.cg_model.specs.World.{Node, replica_of, running}
 use Rattle.cg_model.specs.Chronicle.{Told, Attempt, Chronicle}
 use Rattle.cg_model.specs.Fronts.{When}

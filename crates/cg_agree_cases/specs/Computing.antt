@@ -39,8 +39,8 @@ use Rattle.cg_client.specs.Marks.{is_unmade, mark_red, mark_yellow, can_be_green
 use Rattle.cg_client.specs.Queries.{view_of}
 use Rattle.cg_client.specs.Requests.{create, create_kept}
 use Rattle.cg_client.specs.Summary.{summary_of, own_to_red, enter_exchange}
-use Rattle.cg_exchange.specs.ExchangeActions.{send_part, go_on}
-use Rattle.cg_exchange.specs.PlanEnd.{usable_names, take_over, attempt, decide, end_plan}
+use Rattle.cg_states.specs.ExchangeActions.{send_part, go_on}
+use Rattle.cg_states.specs.PlanEnd.{usable_names, take_over, attempt, decide, end_plan}
 use Rattle.cg_disk_records.specs.Change.{spelled_change}
 use Rattle.cg_disk_records.specs.Checkpoint.{spelled_server, spelled_entry, spelled_reached, spelled_kept, spelled_parts, spelled_checkpoint}
 use Rattle.cg_disk_records.specs.Stored.{whiten, recovery_turn}
@@ -50,7 +50,7 @@ use Rattle.cg_disk_records.specs.Crash.{with_change, with_checkpoint, crash_outc
 use Rattle.cg_disk_records.specs.Recovery.{recovery_outcome}
 use Rattle.cg_older.specs.Bytes.{spelled_old_prim, spelled_old_stable, spelled_old_server, spelled_old_reached, spelled_old_parts, spelled_old_checkpoint}
 use Rattle.cg_older.specs.Older.{has_weights}
-use Rattle.cg_model.specs.ReplicaStep.{on_message, on_transitional, on_regular, after_delivery, replica_step}
+use Rattle.cg_states.specs.ReplicaStep.{on_message, on_transitional, on_regular, after_delivery, replica_step}
 use Rattle.cg_model.specs.Admission.{first_refusal}
 use Rattle.cg_model.specs.Show.{ended}
 use Rattle.cg_model.specs.Step.{hand, happens, world_step}

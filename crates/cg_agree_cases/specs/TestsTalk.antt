@@ -17,7 +17,7 @@ use Rattle.cg_group.specs.declared.phase.Phase.TheVariants.{Regular, Transitiona
 use Rattle.cg_group.specs.State.{phase_of}
 use Rattle.cg_client.specs.Replica.{Held, State, RegPrim, TransPrim, Construct, No, Un, NonPrim, Left, Replica}
 use Rattle.cg_client.specs.Requests.{is_creating}
-use Rattle.cg_construct.specs.Construct.{attempt_set}
+use Rattle.cg_states.specs.Construct.{attempt_set}
 use Rattle.cg_model.specs.World.{replica_of}
 use Rattle.cg_model.specs.Chronicle.{Chronicle}
 use Rattle.cg_model.specs.Looks.{told_in, is_regular_in, members_in, ordered_in, sent_by, waiting_in, said_in}

@@ -15,7 +15,7 @@ use Rattle.cg_group.specs.declared.delivery.Handed.{Handed}
 use Rattle.cg_group.specs.State.{Configuration, Sent, configuration, regular_in, phase_of, delivered_to, home}
 use Rattle.cg_group.specs.Events.{delivery_at, deliveries_at, transitional_places, furthest, handed_in_split, with_delivered, become_transitional, deliver, split, merge}
 use Rattle.cg_client.specs.Replica.{Replica}
-use Rattle.cg_model.specs.ReplicaStep.{Input, Deliveries, Asks}
+use Rattle.cg_states.specs.ReplicaStep.{Input, Deliveries, Asks}
 use Rattle.cg_model.specs.Recorded.{OfMessage, OfDelivery, OfInput, Named, AreBooked as AreInBook}
 use Rattle.cg_model.specs.World.{Node, World, running, node_of, replica_of}
 use Rattle.cg_model.specs.Show.{StepInProgress}

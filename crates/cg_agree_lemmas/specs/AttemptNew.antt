@@ -19,13 +19,13 @@ use Rattle.cg_client.specs.Marks.{mark_red, mark_yellow, mark_green}
 use Rattle.cg_client.specs.Requests.{is_creating, create_kept, settle, empty_buffer, create, buffer, request_in, request}
 use Rattle.cg_client.specs.Summary.{enter_exchange}
 use Rattle.cg_client.specs.Install.{install}
-use Rattle.cg_exchange.specs.PlanEnd.{take_over, attempt, decide, end_plan}
-use Rattle.cg_exchange.specs.ExchangeActions.{take_item, send_part, progress, go_on, is_next, exchange_actions_on_item}
-use Rattle.cg_exchange.specs.ExchangeStates.{is_usable, with_heard, exchange_states_on_summary}
-use Rattle.cg_construct.specs.Construct.{attempt_set, is_announced, construct_with}
-use Rattle.cg_construct.specs.No.{no_with}
+use Rattle.cg_states.specs.PlanEnd.{take_over, attempt, decide, end_plan}
+use Rattle.cg_states.specs.ExchangeActions.{take_item, send_part, progress, go_on, is_next, exchange_actions_on_item}
+use Rattle.cg_states.specs.ExchangeStates.{is_usable, with_heard, exchange_states_on_summary}
+use Rattle.cg_states.specs.Construct.{attempt_set, is_announced, construct_with}
+use Rattle.cg_states.specs.No.{no_with}
 use Rattle.cg_disk_records.specs.Commit.{same_values}
-use Rattle.cg_model.specs.ReplicaStep.{Input, Deliveries, Asks, replica_step, on_message, on_transitional, on_regular, after_delivery}
+use Rattle.cg_states.specs.ReplicaStep.{Input, Deliveries, Asks, replica_step, on_message, on_transitional, on_regular, after_delivery}
 use Rattle.cg_model.specs.Fronts.{IsSomeWith}
 use Rattle.cg_model.specs.Levels.{is_record_of}
 use Rattle.cg_model.specs.FactsReplica.{is_attempting, IsAsOnDisk}

@@ -22,7 +22,7 @@ use Rattle.cg_client.specs.Turn.{Turn}
 use Rattle.cg_client.specs.Marks.{after_first, marked, place_green}
 use Rattle.cg_client.specs.Requests.{create, create_kept, empty_buffer, next_action}
 use Rattle.cg_client.specs.Summary.{redden, forget_own, own_to_red}
-use Rattle.cg_exchange.specs.ExchangeActions.{message_of, messages_in_part}
+use Rattle.cg_states.specs.ExchangeActions.{message_of, messages_in_part}
 use Rattle.cg_model.specs.Recorded.{OfMessage}
 use Rattle.cg_model.specs.FactsBooks.{HoldsFine}
 use Rattle.cg_model.specs.Talk.{action_in}

@@ -26,13 +26,13 @@ use Rattle.cg_client.specs.Replica.{State, RegPrim, TransPrim, ExchangeStates, E
 use Rattle.cg_client.specs.Turn.{Turn, go_to}
 use Rattle.cg_client.specs.Marks.{is_unmade, marked, mark_yellow}
 use Rattle.cg_client.specs.Install.{install}
-use Rattle.cg_exchange.specs.ExchangeStates.{is_usable, with_heard, exchange_states_on_summary}
-use Rattle.cg_exchange.specs.ExchangeActions.{message_of, send_part, progress, go_on, is_next, mark_item, take_item, exchange_actions_on_item}
-use Rattle.cg_exchange.specs.PlanEnd.{end_plan}
-use Rattle.cg_construct.specs.Construct.{attempt_set, is_announced, construct_with, construct_on_cpc}
-use Rattle.cg_construct.specs.No.{no_with, no_on_cpc}
-use Rattle.cg_construct.specs.Un.{un_on_action}
-use Rattle.cg_model.specs.ReplicaStep.{on_message, on_transitional, after_delivery}
+use Rattle.cg_states.specs.ExchangeStates.{is_usable, with_heard, exchange_states_on_summary}
+use Rattle.cg_states.specs.ExchangeActions.{message_of, send_part, progress, go_on, is_next, mark_item, take_item, exchange_actions_on_item}
+use Rattle.cg_states.specs.PlanEnd.{end_plan}
+use Rattle.cg_states.specs.Construct.{attempt_set, is_announced, construct_with, construct_on_cpc}
+use Rattle.cg_states.specs.No.{no_with, no_on_cpc}
+use Rattle.cg_states.specs.Un.{un_on_action}
+use Rattle.cg_states.specs.ReplicaStep.{on_message, on_transitional, after_delivery}
 use Rattle.cg_model.specs.Small.{take_next, take_parting}
 use Rattle.cg_agree_lemmas.specs.HandSays.{part_messages, cpc_at_end, sent-part, sent-end}
 use Rattle.cg_agree_lemmas.specs.HandTalk.{sent-marked, sent-mark_red, sent-mark_green, sent-install, sent-mark_green_at}

@@ -9,9 +9,9 @@ use Rattle.cg_client.specs.Replica.{State, RegPrim, TransPrim, ExchangeStates, E
 use Rattle.cg_client.specs.Turn.{Turn, begin, with_held}
 use Rattle.cg_client.specs.Marks.{marked}
 use Rattle.cg_client.specs.Summary.{summary_of, redden, forget_own, own_to_red, enter_exchange}
-use Rattle.cg_prim.specs.TransPrim.{end_prim}
-use Rattle.cg_construct.specs.No.{no_record}
-use Rattle.cg_model.specs.ReplicaStep.{on_regular, after_delivery}
+use Rattle.cg_states.specs.TransPrim.{end_prim}
+use Rattle.cg_states.specs.No.{no_record}
+use Rattle.cg_states.specs.ReplicaStep.{on_regular, after_delivery}
 use Rattle.cg_group.specs.State.{GroupState, configuration}
 use Rattle.cg_model.specs.Small.{newest_conf, take_newest}
 use Rattle.cg_model.specs.Smalls.{is_between}

@@ -5,9 +5,9 @@ use Rattle.cg_wire.specs.declared.message.Msg.{Msg}
 use Rattle.cg_client.specs.Replica.{State, RegPrim, TransPrim, ExchangeStates, ExchangeActions, Construct, No, Un, NonPrim, Left, Replica}
 use Rattle.cg_client.specs.Turn.{Turn, begin, with_held}
 use Rattle.cg_client.specs.Summary.{enter_exchange}
-use Rattle.cg_prim.specs.TransPrim.{end_prim}
-use Rattle.cg_construct.specs.No.{no_record}
-use Rattle.cg_model.specs.ReplicaStep.{on_regular, after_delivery}
+use Rattle.cg_states.specs.TransPrim.{end_prim}
+use Rattle.cg_states.specs.No.{no_record}
+use Rattle.cg_states.specs.ReplicaStep.{on_regular, after_delivery}
 use Rattle.cg_model.specs.Small.{newly_green, take_newest, newest_conf}
 use Rattle.cg_model.specs.Smalls.{is_between}
 use Rattle.cg_agree_lemmas.specs.HeldCommit.{own-greens}

@@ -1,7 +1,7 @@
 -- In each event the turns that stand are reached by its small steps.
 use Rattle.cg_agree_lemmas.specs.MadeSplit.{IsLeaving, parted, parted-id, parted-placed, input as parting, block as parts, members-of as leaving-of, turns-split}
 use Rattle.cg_agree_lemmas.specs.MadeMerge.{IsComing, entered, entered-id, input as coming, block as comes, members-of as coming-of, turns-merge}
-use Rattle.cg_model.specs.ReplicaStep.{Input, Deliveries, Asks as AsksOf, replica_step}
+use Rattle.cg_states.specs.ReplicaStep.{Input, Deliveries, Asks as AsksOf, replica_step}
 use Rattle.cg_model.specs.Small.{Small, Makes, Enters, Hands, Asks, Settles, make_configuration, take_request}
 use Rattle.cg_action.specs.declared.action.Kind.TheVariants.{Update, Join as JoinKind, Leave as LeaveKind}
 use Rattle.cg_schedule.specs.declared.event.Event.TheVariants.{Split, Merge, Deliver, Request, Join, Leave}

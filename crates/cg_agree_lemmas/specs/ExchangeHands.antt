@@ -17,8 +17,8 @@ use Rattle.cg_plan.specs.Progress.{is_done, turn_of}
 use Rattle.cg_client.specs.Replica.{Held, State, ExchangeActions, Construct, NonPrim, Left, Replica, yellow_of}
 use Rattle.cg_client.specs.Turn.{Turn, go_to, with_held}
 use Rattle.cg_client.specs.Requests.{empty_buffer}
-use Rattle.cg_exchange.specs.ExchangeActions.{progress, send_part, go_on}
-use Rattle.cg_exchange.specs.PlanEnd.{usable_names, take_over, attempt, decide, end_plan}
+use Rattle.cg_states.specs.ExchangeActions.{progress, send_part, go_on}
+use Rattle.cg_states.specs.PlanEnd.{usable_names, take_over, attempt, decide, end_plan}
 use Rattle.cg_model.specs.Chronicle.{Told, Chronicle}
 use Rattle.cg_model.specs.Fronts.{Front, IsSomeWith}
 use Rattle.cg_model.specs.Looks.{told_in}

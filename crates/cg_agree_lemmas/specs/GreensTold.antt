@@ -14,10 +14,10 @@ use Rattle.cg_client.specs.Turn.{Turn, begin, with_held}
 use Rattle.cg_client.specs.Marks.{marked, place_green}
 use Rattle.cg_client.specs.Requests.{is_creating, create, create_kept, empty_buffer, buffer, settle, request_in, request}
 use Rattle.cg_client.specs.Summary.{redden, forget_own, own_to_red, enter_exchange}
-use Rattle.cg_prim.specs.TransPrim.{end_prim}
-use Rattle.cg_construct.specs.No.{no_record}
+use Rattle.cg_states.specs.TransPrim.{end_prim}
+use Rattle.cg_states.specs.No.{no_record}
 use Rattle.cg_group.specs.declared.delivery.Delivery.TheVariants.{Regular as RegularIn}
-use Rattle.cg_model.specs.ReplicaStep.{Input, Deliveries, Asks, replica_step, after_delivery, on_regular}
+use Rattle.cg_states.specs.ReplicaStep.{Input, Deliveries, Asks, replica_step, after_delivery, on_regular}
 use Rattle.cg_disk_records.specs.HeldLaws.{names-behind}
 use Rattle.cg_agree_lemmas.specs.TurnRows.{IsRule, of-deliveries}
 use Rattle.cg_agree_lemmas.specs.KeptEmpty.{anything}

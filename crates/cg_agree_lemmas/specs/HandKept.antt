@@ -17,10 +17,10 @@ use Rattle.cg_client.specs.Turn.{Turn, go_to}
 use Rattle.cg_queue.specs.Queue.{green_count}
 use Rattle.cg_client.specs.Marks.{mark_red, mark_green, mark_green_at}
 use Rattle.cg_client.specs.Install.{install}
-use Rattle.cg_exchange.specs.ExchangeStates.{is_usable, with_heard}
-use Rattle.cg_exchange.specs.ExchangeActions.{progress, go_on, take_item, mark_item}
-use Rattle.cg_construct.specs.Construct.{attempt_set, is_announced as is_usable_announcement, construct_with}
-use Rattle.cg_model.specs.ReplicaStep.{on_message}
+use Rattle.cg_states.specs.ExchangeStates.{is_usable, with_heard}
+use Rattle.cg_states.specs.ExchangeActions.{progress, go_on, take_item, mark_item}
+use Rattle.cg_states.specs.Construct.{attempt_set, is_announced as is_usable_announcement, construct_with}
+use Rattle.cg_states.specs.ReplicaStep.{on_message}
 use Rattle.cg_model.specs.Talk.{Talk, hears_from, is_full, is_through, is_ended, is_announced, is_due, may_go_on, may_say, state_behind, state_in}
 use Rattle.cg_group.specs.LookupLaws.{at-cond}
 use Rattle.cg_agree_lemmas.specs.TalkEarly.{IsEarly, all-member, not_full, due_parts}

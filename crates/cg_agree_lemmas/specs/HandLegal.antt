@@ -26,7 +26,7 @@ use Rattle.cg_wire.specs.declared.message.Msg.{Msg}
 use Rattle.cg_wire.specs.declared.message.Msg.TheVariants.{GreenItem, RedItem, Cpc}
 use Rattle.cg_group.specs.State.{Sent}
 use Rattle.cg_client.specs.Turn.{Turn}
-use Rattle.cg_exchange.specs.ExchangeActions.{message_of, progress, go_on}
+use Rattle.cg_states.specs.ExchangeActions.{message_of, progress, go_on}
 use Rattle.cg_model.specs.Looks.{sent_by}
 use Rattle.cg_model.specs.Talk.{Talk, hears, is_full, is_through, is_ended, is_due, may_go_on, may_say, is_legal, item_in, announcer_in}
 use Rattle.cg_agree_lemmas.specs.TalkEarly.{all-member}

@@ -18,8 +18,8 @@ use Rattle.cg_wire.specs.declared.message.Msg.{Msg}
 use Rattle.cg_wire.specs.declared.message.Msg.TheVariants.{Action as ActionMsg, State as StateMsg, GreenItem, RedItem, Cpc}
 use Rattle.cg_group.specs.State.{Sent}
 use Rattle.cg_client.specs.Turn.{Turn}
-use Rattle.cg_exchange.specs.ExchangeActions.{go_on, take_item}
-use Rattle.cg_model.specs.ReplicaStep.{on_message}
+use Rattle.cg_states.specs.ExchangeActions.{go_on, take_item}
+use Rattle.cg_states.specs.ReplicaStep.{on_message}
 use Rattle.cg_model.specs.Chronicle.{Told}
 use Rattle.cg_model.specs.Looks.{sent_by, placed_of}
 use Rattle.cg_model.specs.Talk.{Talk, no_talk, hears, hears_from, is_full, is_through, is_ended, may_say, is_legal, state_in, item_in, announcer_in, due_items, due_from, due_announcement}

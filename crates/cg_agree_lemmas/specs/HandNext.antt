@@ -10,8 +10,8 @@ use Rattle.cg_group.specs.declared.delivery.Delivery.TheVariants.{Message}
 use Rattle.cg_group.specs.State.{Sent}
 use Rattle.cg_client.specs.Replica.{Replica}
 use Rattle.cg_client.specs.Turn.{begin}
-use Rattle.cg_construct.specs.Construct.{attempt_set}
-use Rattle.cg_model.specs.ReplicaStep.{on_message, after_delivery as take_delivery}
+use Rattle.cg_states.specs.Construct.{attempt_set}
+use Rattle.cg_states.specs.ReplicaStep.{on_message, after_delivery as take_delivery}
 use Rattle.cg_model.specs.Talk.{Talk, no_talk, hears, talk_of, is_ended, may_say, is_legal, state_in}
 use Rattle.cg_agree_lemmas.specs.TalkEarly.{early-legal, early-none}
 use Rattle.cg_agree_lemmas.specs.HandKept.{hand-message}

@@ -27,8 +27,8 @@ use Rattle.cg_wire.specs.declared.message.Msg.TheVariants.{GreenItem, RedItem, C
 use Rattle.cg_client.specs.Replica.{ExchangeActions, NonPrim, Left}
 use Rattle.cg_client.specs.Turn.{Turn, go_to, with_held}
 use Rattle.cg_client.specs.Requests.{empty_buffer}
-use Rattle.cg_exchange.specs.ExchangeActions.{message_of, messages_in_part, send_part, progress, go_on}
-use Rattle.cg_exchange.specs.PlanEnd.{take_over, attempt, decide, end_plan}
+use Rattle.cg_states.specs.ExchangeActions.{message_of, messages_in_part, send_part, progress, go_on}
+use Rattle.cg_states.specs.PlanEnd.{take_over, attempt, decide, end_plan}
 use Rattle.cg_model.specs.Chronicle.{Told}
 use Rattle.cg_model.specs.Talk.{Talk, is_full, summary_in, item_in, announcer_in, act_in, due_items}
 use Rattle.cg_model.specs.FactsTalk.{SaysWhatIsDue, summaries_of}

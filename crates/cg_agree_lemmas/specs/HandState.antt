@@ -19,8 +19,8 @@ use Rattle.cg_client.specs.Replica.{State, ExchangeActions, Construct, NonPrim, 
 use Rattle.cg_client.specs.Turn.{Turn, go_to, with_held}
 use Rattle.cg_client.specs.Marks.{is_unmade, marked, mark_red, mark_green, can_be_green, place_green}
 use Rattle.cg_client.specs.Requests.{empty_buffer}
-use Rattle.cg_exchange.specs.ExchangeActions.{send_part, progress, go_on}
-use Rattle.cg_exchange.specs.PlanEnd.{take_over, attempt, decide, end_plan}
+use Rattle.cg_states.specs.ExchangeActions.{send_part, progress, go_on}
+use Rattle.cg_states.specs.PlanEnd.{take_over, attempt, decide, end_plan}
 use Rattle.cg_model.specs.Talk.{Talk, is_full, is_through, is_announced, state_behind, state_in}
 use Rattle.cg_group.specs.LookupLaws.{at-cond}
 

@@ -22,10 +22,10 @@ use Rattle.cg_client.specs.Turn.{Turn, go_to}
 use Rattle.cg_client.specs.Marks.{is_unmade, marked, mark_red, mark_green, can_be_green, place_green, mark_green_at}
 use Rattle.cg_client.specs.Requests.{is_creating}
 use Rattle.cg_client.specs.Install.{install, yellow_green, valid_yellow}
-use Rattle.cg_exchange.specs.ExchangeStates.{is_usable, with_heard}
-use Rattle.cg_exchange.specs.ExchangeActions.{progress, go_on, take_item, mark_item}
-use Rattle.cg_construct.specs.Construct.{attempt_set, is_announced as is_usable_announcement, construct_with}
-use Rattle.cg_model.specs.ReplicaStep.{on_message}
+use Rattle.cg_states.specs.ExchangeStates.{is_usable, with_heard}
+use Rattle.cg_states.specs.ExchangeActions.{progress, go_on, take_item, mark_item}
+use Rattle.cg_states.specs.Construct.{attempt_set, is_announced as is_usable_announcement, construct_with}
+use Rattle.cg_states.specs.ReplicaStep.{on_message}
 use Rattle.cg_model.specs.Chronicle.{Told}
 use Rattle.cg_model.specs.Talk.{Talk, hears_from, is_full, is_through, is_announced, is_due, may_say, state_behind, state_in, item_in, announcer_in, act_in, due_from, due_items, due_announcement}
 use Rattle.cg_model.specs.FactsTalk.{SaysWhatIsDue}

@@ -16,7 +16,7 @@ use Rattle.cg_group.specs.Events.{with_delivered, delivery_at, deliveries_at}
 use Rattle.cg_group.specs.LookupLaws.{standing_of-set, put-same as put-here}
 use Rattle.cg_client.specs.Turn.{Turn, begin}
 use Rattle.cg_client.specs.Requests.{settle}
-use Rattle.cg_model.specs.ReplicaStep.{after_delivery}
+use Rattle.cg_states.specs.ReplicaStep.{after_delivery}
 use Rattle.cg_disk_records.specs.Crash.{Disk}
 use Rattle.cg_model.specs.World.{World}
 use Rattle.cg_model.specs.Small.{Hands, Settles, take_all, take_next}

@@ -25,8 +25,8 @@ use Rattle.cg_base.specs.EachLaws.{Each-above, Each-append}
 use Rattle.cg_group.specs.PlaceLaws.{at_place-append}
 use Rattle.cg_client.specs.Replica.{Held, ExchangeActions}
 use Rattle.cg_client.specs.Turn.{Turn, go_to}
-use Rattle.cg_exchange.specs.ExchangeActions.{message_of, send_part, progress, go_on}
-use Rattle.cg_exchange.specs.PlanEnd.{end_plan}
+use Rattle.cg_states.specs.ExchangeActions.{message_of, send_part, progress, go_on}
+use Rattle.cg_states.specs.PlanEnd.{end_plan}
 use Rattle.cg_model.specs.Fronts.{Front}
 use Rattle.cg_model.specs.Chronicle.{Told, Chronicle}
 use Rattle.cg_model.specs.Looks.{told_in}

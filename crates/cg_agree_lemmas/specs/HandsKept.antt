@@ -17,7 +17,7 @@ use Rattle.cg_group.specs.Ready.{ready, ready_in, all_received}
 use Rattle.cg_group.specs.State.{Sent, Standing, GroupState, standing_of, phase_of, is_regular, is_up, regular_in, delivered_to, configuration}
 use Rattle.cg_client.specs.Replica.{Held, State, RegPrim, Construct, Replica}
 use Rattle.cg_client.specs.Turn.{begin}
-use Rattle.cg_construct.specs.Construct.{attempt_set}
+use Rattle.cg_states.specs.Construct.{attempt_set}
 use Rattle.cg_disk_records.specs.Crash.{Disk}
 use Rattle.cg_model.specs.World.{NodeState, Up, Down as DownLife, Node, World, node_of, replica_of, running}
 use Rattle.cg_model.specs.Chronicle.{Attempt, Chronicle}

@@ -18,10 +18,10 @@ use Rattle.cg_client.specs.Replica.{ExchangeStates, ExchangeActions, NonPrim, Le
 use Rattle.cg_client.specs.Turn.{Turn, with_held, go_to}
 use Rattle.cg_client.specs.Marks.{is_unmade, after_first, marked, mark_red, can_be_green, place_green, mark_green}
 use Rattle.cg_client.specs.Requests.{empty_buffer}
-use Rattle.cg_exchange.specs.ExchangeActions.{send_part, progress, go_on, is_next, mark_item, take_item, exchange_actions_on_item}
-use Rattle.cg_exchange.specs.ExchangeStates.{is_usable, with_heard, exchange_states_on_summary}
-use Rattle.cg_exchange.specs.PlanEnd.{take_over, attempt, decide, end_plan}
-use Rattle.cg_model.specs.ReplicaStep.{on_message}
+use Rattle.cg_states.specs.ExchangeActions.{send_part, progress, go_on, is_next, mark_item, take_item, exchange_actions_on_item}
+use Rattle.cg_states.specs.ExchangeStates.{is_usable, with_heard, exchange_states_on_summary}
+use Rattle.cg_states.specs.PlanEnd.{take_over, attempt, decide, end_plan}
+use Rattle.cg_states.specs.ReplicaStep.{on_message}
 
 -- a part of a turn behind which nothing is waited for, where nothing was before it
 abbrev WaitsForNone : (Turn → Turn) → Type 0

@@ -14,11 +14,11 @@ use Rattle.cg_client.specs.Replica.{State, RegPrim, TransPrim, ExchangeStates, E
 use Rattle.cg_client.specs.Turn.{Turn, begin, go_to}
 use Rattle.cg_client.specs.Install.{install}
 use Rattle.cg_knowledge.specs.Verdict.{decides}
-use Rattle.cg_construct.specs.Construct.{attempt_set, is_announced, construct_with, construct_on_cpc}
-use Rattle.cg_construct.specs.No.{no_with, no_on_cpc}
-use Rattle.cg_exchange.specs.ExchangeActions.{go_on, is_next, take_item, exchange_actions_on_item}
-use Rattle.cg_exchange.specs.ExchangeStates.{is_usable, with_heard, exchange_states_on_summary}
-use Rattle.cg_model.specs.ReplicaStep.{on_message}
+use Rattle.cg_states.specs.Construct.{attempt_set, is_announced, construct_with, construct_on_cpc}
+use Rattle.cg_states.specs.No.{no_with, no_on_cpc}
+use Rattle.cg_states.specs.ExchangeActions.{go_on, is_next, take_item, exchange_actions_on_item}
+use Rattle.cg_states.specs.ExchangeStates.{is_usable, with_heard, exchange_states_on_summary}
+use Rattle.cg_states.specs.ReplicaStep.{on_message}
 use Rattle.cg_disk_records.specs.Crash.{Disk}
 use Rattle.cg_model.specs.World.{Node}
 use Rattle.cg_model.specs.Attempts.{held_in}

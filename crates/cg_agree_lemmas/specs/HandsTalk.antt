@@ -19,8 +19,8 @@ use Rattle.cg_client.specs.Replica.{State, Replica}
 use Rattle.cg_group.specs.declared.delivery.Delivery.TheVariants.{Message}
 use Rattle.cg_group.specs.LookupLaws.{at-cond, eqb_comm}
 use Rattle.cg_client.specs.Turn.{Turn, begin}
-use Rattle.cg_construct.specs.Construct.{attempt_set}
-use Rattle.cg_model.specs.ReplicaStep.{after_delivery as take_one, on_message}
+use Rattle.cg_states.specs.Construct.{attempt_set}
+use Rattle.cg_states.specs.ReplicaStep.{after_delivery as take_one, on_message}
 use Rattle.cg_disk_records.specs.Crash.{Disk}
 use Rattle.cg_model.specs.World.{Up, Node, node_of, replica_of, running}
 use Rattle.cg_model.specs.Chronicle.{Told, Chronicle}

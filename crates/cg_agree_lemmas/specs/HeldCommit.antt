@@ -17,11 +17,11 @@ use Rattle.cg_client.specs.Turn.{Turn, with_held, begin}
 use Rattle.cg_client.specs.Marks.{marked}
 use Rattle.cg_client.specs.Requests.{buffer, request_in}
 use Rattle.cg_client.specs.Summary.{redden, forget_own, own_to_red, enter_exchange}
-use Rattle.cg_prim.specs.TransPrim.{end_prim}
-use Rattle.cg_construct.specs.No.{no_record}
+use Rattle.cg_states.specs.TransPrim.{end_prim}
+use Rattle.cg_states.specs.No.{no_record}
 use Rattle.cg_client.specs.Whitening.{white_at}
 use Rattle.cg_disk_records.specs.Stored.{stored_of, whiten, recovery_turn}
-use Rattle.cg_model.specs.ReplicaStep.{on_regular, after_delivery}
+use Rattle.cg_states.specs.ReplicaStep.{on_regular, after_delivery}
 use Rattle.cg_model.specs.Small.{take_request}
 use Rattle.cg_agree_lemmas.specs.HeldMarks.{IsOneself}
 use Rattle.cg_agree_lemmas.specs.HeldTurns.{Keeps, grows-none, keeps-none, keeps-both, keeps-by_replica, keeps-create, keeps-enter_exchange, keeps-own_to_red, oneself-with}

@@ -14,11 +14,11 @@ use Rattle.cg_wire.specs.declared.message.Msg.TheVariants.{Action as ActionMsg, 
 use Rattle.cg_client.specs.Replica.{Held, ExchangeActions, NonPrim, Left}
 use Rattle.cg_client.specs.Turn.{Turn, with_held, go_to}
 use Rattle.cg_client.specs.Requests.{empty_buffer}
-use Rattle.cg_exchange.specs.PlanEnd.{usable_names, take_over, begin_attempt, attempt, decide, end_plan}
+use Rattle.cg_states.specs.PlanEnd.{usable_names, take_over, begin_attempt, attempt, decide, end_plan}
 use Rattle.cg_plan.specs.declared.parts.Part.{Part}
 use Rattle.cg_plan.specs.Plan.{plan_of}
 use Rattle.cg_plan.specs.Progress.{is_done, turn_of}
-use Rattle.cg_exchange.specs.ExchangeActions.{mark_item, take_item, send_part, progress, go_on}
+use Rattle.cg_states.specs.ExchangeActions.{mark_item, take_item, send_part, progress, go_on}
 use Rattle.cg_disk_records.specs.Holds.{run_on}
 use Rattle.cg_agree_lemmas.specs.HeldMarks.{IsOneself, are_within}
 use Rattle.cg_agree_lemmas.specs.HeldTurns.{Grows, Keeps, grows-none, grows-both, keeps-none, keeps-choice, keeps-by_replica, keeps-held, keeps-mark_red, keeps-mark_green_at, oneself-with}

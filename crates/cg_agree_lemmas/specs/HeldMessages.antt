@@ -9,10 +9,10 @@ use Rattle.cg_client.specs.Replica.{Held, State, RegPrim, TransPrim, ExchangeSta
 use Rattle.cg_client.specs.Turn.{Turn, go_to}
 use Rattle.cg_client.specs.Marks.{mark_yellow}
 use Rattle.cg_client.specs.Install.{prim_after, yellow_green, reds_green, install}
-use Rattle.cg_construct.specs.Construct.{attempt_set, is_announced, construct_with, construct_on_cpc}
-use Rattle.cg_construct.specs.No.{no_with, no_on_cpc}
-use Rattle.cg_construct.specs.Un.{un_on_action}
-use Rattle.cg_model.specs.ReplicaStep.{on_message}
+use Rattle.cg_states.specs.Construct.{attempt_set, is_announced, construct_with, construct_on_cpc}
+use Rattle.cg_states.specs.No.{no_with, no_on_cpc}
+use Rattle.cg_states.specs.Un.{un_on_action}
+use Rattle.cg_states.specs.ReplicaStep.{on_message}
 use Rattle.cg_disk_records.specs.Holds.{cut_behind}
 use Rattle.cg_agree_lemmas.specs.HeldMarks.{IsOneself}
 use Rattle.cg_agree_lemmas.specs.HeldTurns.{Grows, Keeps, grows-both, keeps-none, keeps-both, keeps-choice, keeps-by_replica, keeps-held, keeps-mark_red, keeps-mark_green, keeps-install, oneself-with}

@@ -14,7 +14,7 @@ use Rattle.cg_client.specs.Marks.{mark_red, mark_yellow, mark_green}
 use Rattle.cg_client.specs.Requests.{is_creating, create, create_kept, empty_buffer, buffer, settle, request_in, request}
 use Rattle.cg_queue.specs.Queue.{QueueView}
 use Rattle.cg_disk_records.specs.Stored.{whiten}
-use Rattle.cg_model.specs.ReplicaStep.{on_message, on_transitional, after_delivery}
+use Rattle.cg_states.specs.ReplicaStep.{on_message, on_transitional, after_delivery}
 use Rattle.cg_disk_records.specs.Crash.{whitened}
 use Rattle.cg_model.specs.Chronicle.{Told}
 use Rattle.cg_model.specs.FactsExchange.{HasMadeNothing, KnowsAsMuch}

@@ -14,7 +14,7 @@ use Rattle.cg_client.specs.Marks.{marked}
 use Rattle.cg_client.specs.Summary.{redden, forget_own, own_to_red}
 use Rattle.cg_disk_records.specs.Stored.{stored_of, whiten, recovery_turn}
 use Rattle.cg_disk_records.specs.Commit.{commits}
-use Rattle.cg_model.specs.ReplicaStep.{Input, replica_step}
+use Rattle.cg_states.specs.ReplicaStep.{Input, replica_step}
 use Rattle.cg_disk_records.specs.Crash.{Disk, whitened, end_event, recovered}
 use Rattle.cg_model.specs.World.{NodeState, Up, Down, Node, running}
 use Rattle.cg_model.specs.Looks.{on_disk}

@@ -13,7 +13,7 @@ use Rattle.cg_group.specs.Refusals.{deliver_refusal, not_up, not_regular, not_re
 use Rattle.cg_group.specs.Events.{send_all, go_down, deliver, deliveries_at, with_delivered}
 use Rattle.cg_client.specs.Replica.{Replica}
 use Rattle.cg_client.specs.Turn.{Turn, begin}
-use Rattle.cg_model.specs.ReplicaStep.{Deliveries, replica_step}
+use Rattle.cg_states.specs.ReplicaStep.{Deliveries, replica_step}
 use Rattle.cg_disk_records.specs.Crash.{Disk, EventEnd, Runs, Crashes as EndsInCrash, end_event}
 use Rattle.cg_schedule.specs.declared.event.Event.TheVariants.{Deliver}
 use Rattle.cg_model.specs.World.{Up, Node, World, node_of, replica_of}

@@ -10,7 +10,7 @@ use Rattle.cg_base.specs.Sets.{with_member}
 use Rattle.cg_group.specs.State.{is_up}
 use Rattle.cg_client.specs.Turn.{Turn, begin}
 use Rattle.cg_client.specs.Requests.{request}
-use Rattle.cg_model.specs.ReplicaStep.{Asks as AsksOf, replica_step}
+use Rattle.cg_states.specs.ReplicaStep.{Asks as AsksOf, replica_step}
 use Rattle.cg_disk_records.specs.Crash.{EventEnd, Runs, Crashes as EndsInCrash, end_event}
 use Rattle.cg_schedule.specs.declared.event.Event.{Event}
 use Rattle.cg_schedule.specs.declared.event.Event.TheVariants.{Request, Join, Leave}

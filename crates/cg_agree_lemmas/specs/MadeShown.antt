@@ -16,7 +16,7 @@ use Rattle.cg_report.specs.declared.entry.Made.{Made}
 use Rattle.cg_client.specs.Replica.{Held, Replica, created}
 use Rattle.cg_client.specs.Turn.{Turn}
 use Rattle.cg_disk_records.specs.Stored.{stored_of, whiten}
-use Rattle.cg_model.specs.ReplicaStep.{Input, replica_step}
+use Rattle.cg_states.specs.ReplicaStep.{Input, replica_step}
 use Rattle.cg_disk_records.specs.Crash.{Disk, Runs, Crashes, whitened, end_event, recovered, disk_recovered}
 use Rattle.cg_model.specs.FactsBooks.{LifeMade}
 use Rattle.cg_model.specs.World.{NodeState, Up, Down, Node, World, running, node_of}

@@ -19,7 +19,7 @@ use Rattle.cg_group.specs.LookupLaws.{standing_of-set, put-other}
 use Rattle.cg_client.specs.Replica.{Replica}
 use Rattle.cg_client.specs.Turn.{Turn, begin}
 use Rattle.cg_client.specs.Requests.{settle}
-use Rattle.cg_model.specs.ReplicaStep.{Deliveries, replica_step}
+use Rattle.cg_states.specs.ReplicaStep.{Deliveries, replica_step}
 use Rattle.cg_disk_records.specs.Crash.{Disk}
 use Rattle.cg_schedule.specs.declared.event.Event.TheVariants.{Split}
 use Rattle.cg_model.specs.World.{World}

@@ -13,7 +13,7 @@ use Rattle.cg_group.specs.declared.delivery.Handed.{Handed}
 use Rattle.cg_client.specs.Replica.{Held, Replica, created, fresh}
 use Rattle.cg_client.specs.Turn.{Turn}
 use Rattle.cg_disk_records.specs.Stored.{stored_of, whiten}
-use Rattle.cg_model.specs.ReplicaStep.{Input, Deliveries, replica_step}
+use Rattle.cg_states.specs.ReplicaStep.{Input, Deliveries, replica_step}
 use Rattle.cg_disk_records.specs.Crash.{Disk, Strike, Runs, Crashes, whitened, end_event, at_rest, new_disk, recovered, disk_recovered}
 use Rattle.cg_model.specs.FactsBooks.{LifeMade, MadeFits, NodeMade}
 use Rattle.cg_model.specs.World.{NodeState, Up, Down, Node, World, node_of, bring_up, set_life}

@@ -22,12 +22,12 @@ use Rattle.cg_client.specs.Turn.{Turn, begin, with_held, go_to}
 use Rattle.cg_client.specs.Marks.{is_unmade, marked, mark_red, can_be_green, place_green, mark_green, after_first}
 use Rattle.cg_client.specs.Requests.{create, create_kept, empty_buffer, settle, is_creating, request, request_in}
 use Rattle.cg_client.specs.Summary.{redden, forget_own, own_to_red, enter_exchange}
-use Rattle.cg_prim.specs.TransPrim.{end_prim}
-use Rattle.cg_construct.specs.No.{no_record}
-use Rattle.cg_exchange.specs.ExchangeStates.{is_usable, with_heard}
-use Rattle.cg_exchange.specs.ExchangeActions.{progress, is_next, mark_item, take_item, send_part, go_on}
-use Rattle.cg_exchange.specs.PlanEnd.{take_over, attempt, decide, end_plan}
-use Rattle.cg_model.specs.ReplicaStep.{on_message, on_regular, after_delivery}
+use Rattle.cg_states.specs.TransPrim.{end_prim}
+use Rattle.cg_states.specs.No.{no_record}
+use Rattle.cg_states.specs.ExchangeStates.{is_usable, with_heard}
+use Rattle.cg_states.specs.ExchangeActions.{progress, is_next, mark_item, take_item, send_part, go_on}
+use Rattle.cg_states.specs.PlanEnd.{take_over, attempt, decide, end_plan}
+use Rattle.cg_states.specs.ReplicaStep.{on_message, on_regular, after_delivery}
 use Rattle.cg_model.specs.FactsReplica.{is_exchanging}
 use Rattle.cg_model.specs.Small.{take_newest, newest_conf}
 use Rattle.cg_model.specs.Smalls.{is_between}

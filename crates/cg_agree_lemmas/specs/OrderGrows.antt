@@ -16,7 +16,7 @@ use Rattle.cg_base.specs.Lists.{Each}
 use Rattle.cg_group.specs.declared.delivery.Handed.{Handed}
 use Rattle.cg_queue.specs.Queue.{green_count}
 use Rattle.cg_disk_records.specs.Crash.{Crashes, EventEnd, Runs, end_event}
-use Rattle.cg_model.specs.ReplicaStep.{Deliveries, Input, replica_step}
+use Rattle.cg_states.specs.ReplicaStep.{Deliveries, Input, replica_step}
 use Rattle.cg_wire.specs.declared.message.Msg.{Msg}
 
 -- who ran on has its greens in this order

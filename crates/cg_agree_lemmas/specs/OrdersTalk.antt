@@ -4,7 +4,7 @@ use Rattle.std.specs.Prelude.{◌==◌, ◌+◌, is_some}
 use Rattle.std.specs.List.{list_all}
 use Rattle.cg_base.specs.Sets.{has}
 use Rattle.cg_client.specs.Replica.{Held, State, RegPrim, TransPrim, ExchangeStates, ExchangeActions, Construct, No, Un, NonPrim, Left, Replica}
-use Rattle.cg_construct.specs.Construct.{attempt_set}
+use Rattle.cg_states.specs.Construct.{attempt_set}
 use Rattle.cg_model.specs.World.{replica_of}
 use Rattle.cg_model.specs.Levels.{announced_from, announced_at, lacks_announcement}
 use Rattle.std.proofs.lemmas.Bool.{and_parts, and_from, cases_Bool, cond-true, cond-false, cond_both, eqb-false, or_left, or_right, or_cases}

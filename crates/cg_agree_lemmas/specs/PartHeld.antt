@@ -25,7 +25,7 @@ use Rattle.cg_group.specs.LookupLaws.{eqb_comm}
 use Rattle.cg_base.specs.EachLaws.{Each-above}
 use Rattle.cg_group.specs.PlaceLaws.{at_place-within}
 use Rattle.cg_client.specs.Replica.{Held}
-use Rattle.cg_exchange.specs.ExchangeActions.{message_of}
+use Rattle.cg_states.specs.ExchangeActions.{message_of}
 use Rattle.cg_model.specs.FactsReplica.{IsMadeOf}
 use Rattle.cg_agree_lemmas.specs.HandSays.{has_part}
 use Rattle.cg_agree_lemmas.specs.HandsContent.{turn-found}

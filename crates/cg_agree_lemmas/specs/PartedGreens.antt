@@ -22,9 +22,9 @@ use Rattle.cg_client.specs.Replica.{Held, State, RegPrim, TransPrim, ExchangeSta
 use Rattle.cg_client.specs.Turn.{Turn, begin, go_to}
 use Rattle.cg_client.specs.Marks.{is_unmade, marked, mark_red, mark_yellow}
 use Rattle.cg_client.specs.Install.{install}
-use Rattle.cg_construct.specs.Construct.{attempt_set, is_announced}
-use Rattle.cg_construct.specs.No.{no_with}
-use Rattle.cg_model.specs.ReplicaStep.{on_message, on_transitional, after_delivery}
+use Rattle.cg_states.specs.Construct.{attempt_set, is_announced}
+use Rattle.cg_states.specs.No.{no_with}
+use Rattle.cg_states.specs.ReplicaStep.{on_message, on_transitional, after_delivery}
 use Rattle.cg_model.specs.FactsReplica.{is_attempting}
 use Rattle.cg_model.specs.Small.{take_all, take_parting}
 use Rattle.cg_agree_lemmas.specs.HeldAll.{installed_by, install-all}

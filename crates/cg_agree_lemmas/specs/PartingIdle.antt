@@ -9,7 +9,7 @@ use Rattle.cg_group.specs.Events.{delivery_at, deliveries_at}
 use Rattle.cg_group.specs.State.{Sent, Configuration}
 use Rattle.cg_client.specs.Replica.{NonPrim, Left, Replica}
 use Rattle.cg_client.specs.Turn.{Turn}
-use Rattle.cg_model.specs.ReplicaStep.{on_message, after_delivery as take_one}
+use Rattle.cg_states.specs.ReplicaStep.{on_message, after_delivery as take_one}
 use Rattle.cg_model.specs.Small.{take_all}
 use Rattle.cg_model.specs.Total.{IsUsedLeaving, AreTakenLeaving}
 use Rattle.cg_agree_lemmas.specs.PartingNo.{alone-kept, left-kept}

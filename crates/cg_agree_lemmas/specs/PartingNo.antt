@@ -18,9 +18,9 @@ use Rattle.cg_group.specs.Events.{delivery_at, deliveries_at}
 use Rattle.cg_client.specs.Replica.{State, RegPrim, TransPrim, ExchangeStates, ExchangeActions, Construct, No, Un, NonPrim, Left, Replica}
 use Rattle.cg_client.specs.Turn.{Turn, go_to}
 use Rattle.cg_client.specs.Marks.{is_unmade, marked, mark_red, mark_yellow}
-use Rattle.cg_construct.specs.Construct.{attempt_set, is_announced}
-use Rattle.cg_construct.specs.No.{no_with, no_on_cpc}
-use Rattle.cg_model.specs.ReplicaStep.{on_message, after_delivery}
+use Rattle.cg_states.specs.Construct.{attempt_set, is_announced}
+use Rattle.cg_states.specs.No.{no_with, no_on_cpc}
+use Rattle.cg_states.specs.ReplicaStep.{on_message, after_delivery}
 
 -- ---- states that messages of a parting don't change
 

@@ -12,7 +12,7 @@ use Rattle.cg_group.specs.State.{GroupState, home}
 use Rattle.cg_client.specs.Replica.{State, RegPrim, TransPrim, ExchangeStates, ExchangeActions, Construct, No, Un, NonPrim, Left, Replica}
 use Rattle.cg_client.specs.Turn.{Turn, begin}
 use Rattle.cg_client.specs.Marks.{is_unmade, marked, mark_red}
-use Rattle.cg_model.specs.ReplicaStep.{on_message, on_transitional, after_delivery}
+use Rattle.cg_states.specs.ReplicaStep.{on_message, on_transitional, after_delivery}
 use Rattle.cg_model.specs.FactsReplica.{is_primary, is_attempting}
 use Rattle.cg_model.specs.Small.{take_parting}
 use Rattle.cg_agree_lemmas.specs.PartingNo.{kept-places}

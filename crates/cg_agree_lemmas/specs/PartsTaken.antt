@@ -24,14 +24,14 @@ use Rattle.cg_client.specs.Marks.{is_unmade, after_first, marked, mark_red, mark
 use Rattle.cg_client.specs.Requests.{is_creating, next_action, with_own, add_action, create, empty_buffer, create_kept, settle}
 use Rattle.cg_client.specs.Summary.{summary_of, redden, forget_own, own_to_red, tell, enter_exchange}
 use Rattle.cg_client.specs.Install.{valid_yellow, with_prim, prim_after, yellow_green, reds_green, install}
-use Rattle.cg_prim.specs.TransPrim.{end_prim, trans_prim_on_regular}
-use Rattle.cg_exchange.specs.ExchangeStates.{is_usable, with_heard, exchange_states_on_summary}
-use Rattle.cg_exchange.specs.ExchangeActions.{messages_in_part, send_part, progress, go_on, is_next, mark_item, take_item, exchange_actions_on_item}
-use Rattle.cg_exchange.specs.PlanEnd.{take_over, begin_attempt, attempt, decide, end_plan}
-use Rattle.cg_construct.specs.Construct.{attempt_set, is_announced, construct_with, construct_on_cpc}
-use Rattle.cg_construct.specs.No.{no_with, no_on_cpc, no_record, no_on_regular}
-use Rattle.cg_construct.specs.Un.{un_on_action}
-use Rattle.cg_model.specs.ReplicaStep.{on_message, on_transitional, on_regular, after_delivery}
+use Rattle.cg_states.specs.TransPrim.{end_prim, trans_prim_on_regular}
+use Rattle.cg_states.specs.ExchangeStates.{is_usable, with_heard, exchange_states_on_summary}
+use Rattle.cg_states.specs.ExchangeActions.{messages_in_part, send_part, progress, go_on, is_next, mark_item, take_item, exchange_actions_on_item}
+use Rattle.cg_states.specs.PlanEnd.{take_over, begin_attempt, attempt, decide, end_plan}
+use Rattle.cg_states.specs.Construct.{attempt_set, is_announced, construct_with, construct_on_cpc}
+use Rattle.cg_states.specs.No.{no_with, no_on_cpc, no_record, no_on_regular}
+use Rattle.cg_states.specs.Un.{un_on_action}
+use Rattle.cg_states.specs.ReplicaStep.{on_message, on_transitional, on_regular, after_delivery}
 use Rattle.cg_agree_lemmas.specs.Parts.{IsPart, part-none, part-both, part-by_replica, part-choice, part-fold, part-changed, part-known, part-green, part-made, part-sent, part-replies, part-own}
 
 -- ---- marks

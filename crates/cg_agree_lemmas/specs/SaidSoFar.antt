@@ -17,7 +17,7 @@ use Rattle.cg_plan.specs.PlanLaws.{same_item-is}
 use Rattle.cg_wire.specs.declared.message.Msg.{Msg}
 use Rattle.cg_wire.specs.declared.message.Msg.TheVariants.{Action as ActionMsg, State as StateMsg, GreenItem, RedItem, Cpc}
 use Rattle.cg_group.specs.State.{Sent}
-use Rattle.cg_exchange.specs.ExchangeActions.{progress}
+use Rattle.cg_states.specs.ExchangeActions.{progress}
 use Rattle.cg_model.specs.Looks.{placed_of, sent_by}
 use Rattle.cg_model.specs.Talk.{Talk, hears_from, hears, is_full, is_through, is_due, may_say, is_legal, item_in, announcer_in}
 use Rattle.cg_agree_lemmas.specs.TalkEarly.{IsEarly, early-hears, not_full, due_parts}

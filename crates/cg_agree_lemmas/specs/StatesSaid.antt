@@ -10,7 +10,7 @@ use Rattle.cg_wire.specs.declared.message.Msg.TheVariants.{Action as ActionMsg, 
 use Rattle.cg_client.specs.Replica.{State, RegPrim, ExchangeStates, ExchangeActions, Construct, NonPrim, Left}
 use Rattle.cg_client.specs.Turn.{Turn}
 use Rattle.cg_client.specs.Requests.{is_creating}
-use Rattle.cg_model.specs.ReplicaStep.{on_message}
+use Rattle.cg_states.specs.ReplicaStep.{on_message}
 use Rattle.cg_model.specs.Talk.{Talk, hears_from, is_full, is_through, is_ended, is_announced as all_announced, act_in, known_up_to, state_in}
 use Rattle.cg_model.specs.FactsTalk.{of_creator, count_behind}
 use Rattle.cg_agree_lemmas.specs.ActsSaid.{not-creating}

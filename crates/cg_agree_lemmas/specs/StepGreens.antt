@@ -12,7 +12,7 @@ use Rattle.cg_client.specs.Turn.{Turn, begin}
 use Rattle.cg_client.specs.Requests.{is_creating, create_kept, empty_buffer, settle}
 use Rattle.cg_client.specs.Whitening.{white_at}
 use Rattle.cg_disk_records.specs.Stored.{whiten}
-use Rattle.cg_model.specs.ReplicaStep.{Input, Deliveries, Asks, replica_step}
+use Rattle.cg_states.specs.ReplicaStep.{Input, Deliveries, Asks, replica_step}
 use Rattle.cg_model.specs.Small.{take_all}
 use Rattle.cg_agree_lemmas.specs.HeldMarks.{IsOneself, counted}
 use Rattle.cg_disk_records.specs.HeldLaws.{line-below}

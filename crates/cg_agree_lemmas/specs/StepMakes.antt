@@ -14,7 +14,7 @@ use Rattle.cg_queue.specs.Queue.{names_of, green_count}
 use Rattle.cg_client.specs.Replica.{Held, State, RegPrim, TransPrim, ExchangeStates, ExchangeActions, Construct, No, Un, NonPrim, Left, Replica, created}
 use Rattle.cg_client.specs.Turn.{Turn, begin, with_held}
 use Rattle.cg_client.specs.Requests.{is_creating, next_action, create, create_kept, empty_buffer, buffer, settle, request_in, request}
-use Rattle.cg_model.specs.ReplicaStep.{Input, Deliveries, Asks, replica_step, after_delivery}
+use Rattle.cg_states.specs.ReplicaStep.{Input, Deliveries, Asks, replica_step, after_delivery}
 use Rattle.cg_disk_records.specs.Holds.{run_on, cut_behind, Rising}
 use Rattle.cg_disk_records.specs.RunLaws.{run_on-next}
 use Rattle.cg_agree_lemmas.specs.HeldMarks.{IsOneself, are_within}

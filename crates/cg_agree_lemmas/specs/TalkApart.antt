@@ -11,7 +11,7 @@ use Rattle.cg_group.specs.declared.phase.Phase.{Phase}
 use Rattle.cg_group.specs.declared.phase.Phase.TheVariants.{Regular, Transitional, Alone, Down}
 use Rattle.cg_group.specs.State.{Configuration, phase_of, delivered_to, unordered_of, has_received}
 use Rattle.cg_client.specs.Replica.{Held, State, RegPrim, TransPrim, ExchangeStates, ExchangeActions, Construct, No, Un, NonPrim, Left, Replica}
-use Rattle.cg_construct.specs.Construct.{attempt_set}
+use Rattle.cg_states.specs.Construct.{attempt_set}
 use Rattle.cg_model.specs.Levels.{lacks_announcement, announced_from}
 use Rattle.cg_model.specs.World.{replica_of}
 use Rattle.cg_model.specs.Chronicle.{Told, Chronicle}

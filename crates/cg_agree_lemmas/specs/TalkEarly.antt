@@ -17,7 +17,7 @@ use Rattle.cg_plan.specs.Progress.{is_wanted, next_item, is_done}
 use Rattle.cg_wire.specs.declared.message.Msg.{Msg}
 use Rattle.cg_wire.specs.declared.message.Msg.TheVariants.{Action as ActionMsg, State as StateMsg, GreenItem, RedItem, Cpc}
 use Rattle.cg_group.specs.State.{Sent}
-use Rattle.cg_exchange.specs.ExchangeActions.{progress}
+use Rattle.cg_states.specs.ExchangeActions.{progress}
 use Rattle.cg_model.specs.Talk.{Talk, no_talk, hears_from, hears, is_full, is_through, is_ended, is_announced, is_due, may_go_on, may_say, is_legal}
 
 -- what all of a set pass a member passes

@@ -11,7 +11,7 @@ use Rattle.cg_group.specs.State.{Configuration, phase_of, delivered_to, unordere
 use Rattle.std.specs.List.{list_all}
 use Rattle.cg_base.specs.Sets.{has}
 use Rattle.cg_client.specs.Replica.{Held, State, RegPrim, TransPrim, ExchangeStates, ExchangeActions, Construct, No, Un, NonPrim, Left, Replica}
-use Rattle.cg_construct.specs.Construct.{attempt_set}
+use Rattle.cg_states.specs.Construct.{attempt_set}
 use Rattle.cg_model.specs.Levels.{lacks_announcement, announced_from}
 use Rattle.cg_model.specs.World.{replica_of}
 use Rattle.cg_model.specs.Chronicle.{Told, Chronicle}

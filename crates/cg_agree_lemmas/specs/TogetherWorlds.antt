@@ -13,7 +13,7 @@ use Rattle.cg_base.specs.Lists.{Each}
 use Rattle.cg_group.specs.LookupLaws.{configurations-set_standing, standing_of-set, standing_of-down, put-other}
 use Rattle.cg_client.specs.Replica.{Replica}
 use Rattle.cg_client.specs.Turn.{Turn}
-use Rattle.cg_model.specs.ReplicaStep.{Deliveries, replica_step}
+use Rattle.cg_states.specs.ReplicaStep.{Deliveries, replica_step}
 use Rattle.cg_disk_records.specs.Crash.{EventEnd, Runs, Crashes as EndsInCrash, end_event}
 use Rattle.cg_model.specs.World.{NodeState, Node, TransferState, World, node_of, replica_of, with_node}
 use Rattle.cg_model.specs.Show.{StepInProgress}

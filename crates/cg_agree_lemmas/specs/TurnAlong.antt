@@ -14,7 +14,7 @@ use Rattle.cg_group.specs.State.{Standing, GroupState, set_standing}
 use Rattle.cg_group.specs.Events.{send_all}
 use Rattle.cg_client.specs.Replica.{Replica}
 use Rattle.cg_client.specs.Turn.{Turn}
-use Rattle.cg_model.specs.ReplicaStep.{Deliveries, replica_step}
+use Rattle.cg_states.specs.ReplicaStep.{Deliveries, replica_step}
 use Rattle.cg_disk_records.specs.Commit.{commits}
 use Rattle.cg_disk_records.specs.Crash.{Disk, EventEnd, Runs, Crashes as EndsInCrash, end_event}
 use Rattle.cg_model.specs.World.{NodeState, Up, Down, Node, World, running, node_of, replica_of}

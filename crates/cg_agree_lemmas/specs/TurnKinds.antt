@@ -20,12 +20,12 @@ use Rattle.cg_client.specs.Turn.{Turn, with_held, go_to}
 use Rattle.cg_client.specs.Marks.{mark_red, mark_yellow, mark_green}
 use Rattle.cg_client.specs.Install.{prim_after, install}
 use Rattle.cg_client.specs.Requests.{empty_buffer}
-use Rattle.cg_exchange.specs.ExchangeStates.{is_usable, with_heard}
-use Rattle.cg_exchange.specs.ExchangeActions.{progress, is_next, take_item, send_part, go_on}
-use Rattle.cg_exchange.specs.PlanEnd.{take_over, attempt, decide, end_plan}
-use Rattle.cg_construct.specs.Construct.{attempt_set, is_announced, construct_with}
-use Rattle.cg_construct.specs.No.{no_with}
-use Rattle.cg_model.specs.ReplicaStep.{on_message}
+use Rattle.cg_states.specs.ExchangeStates.{is_usable, with_heard}
+use Rattle.cg_states.specs.ExchangeActions.{progress, is_next, take_item, send_part, go_on}
+use Rattle.cg_states.specs.PlanEnd.{take_over, attempt, decide, end_plan}
+use Rattle.cg_states.specs.Construct.{attempt_set, is_announced, construct_with}
+use Rattle.cg_states.specs.No.{no_with}
+use Rattle.cg_states.specs.ReplicaStep.{on_message}
 use Rattle.cg_model.specs.FactsReplica.{is_attempting, is_primary}
 use Rattle.cg_agree_lemmas.specs.TurnValues.{SameValues, same-values, values-then, IsEven, even-refl, even-mark_red, even-mark_yellow, even-mark_green, even-take_item, even-send_part, even-installed}
 

@@ -16,11 +16,11 @@ use Rattle.cg_client.specs.Turn.{Turn, begin, with_held, go_to}
 use Rattle.cg_client.specs.Requests.{settle, request, request_in, create_kept, is_creating}
 use Rattle.cg_client.specs.Install.{prim_after}
 use Rattle.cg_client.specs.Summary.{enter_exchange}
-use Rattle.cg_prim.specs.TransPrim.{end_prim}
+use Rattle.cg_states.specs.TransPrim.{end_prim}
 use Rattle.cg_base.specs.Sets.{is_within, with_member}
-use Rattle.cg_construct.specs.Construct.{attempt_set, is_announced}
-use Rattle.cg_construct.specs.No.{no_record, no_with}
-use Rattle.cg_model.specs.ReplicaStep.{on_message, on_transitional, on_regular, after_delivery}
+use Rattle.cg_states.specs.Construct.{attempt_set, is_announced}
+use Rattle.cg_states.specs.No.{no_record, no_with}
+use Rattle.cg_states.specs.ReplicaStep.{on_message, on_transitional, on_regular, after_delivery}
 use Rattle.cg_model.specs.FactsReplica.{is_attempting, is_primary}
 use Rattle.cg_model.specs.Small.{take_all, take_newest, take_next, take_parting, take_request, newest_conf}
 use Rattle.cg_model.specs.Smalls.{is_between}

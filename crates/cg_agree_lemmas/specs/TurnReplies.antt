@@ -18,7 +18,7 @@ use Rattle.cg_client.specs.Turn.{Turn, begin}
 use Rattle.cg_client.specs.Marks.{marked, after_owed, given_to, place_green}
 use Rattle.cg_client.specs.Requests.{is_creating, next_action, create, create_kept, empty_buffer, buffer, settle, request_in, request}
 use Rattle.cg_client.specs.Summary.{redden, forget_own, own_to_red}
-use Rattle.cg_model.specs.ReplicaStep.{Input, Deliveries, Asks, replica_step, after_delivery}
+use Rattle.cg_states.specs.ReplicaStep.{Input, Deliveries, Asks, replica_step, after_delivery}
 use Rattle.cg_disk_records.specs.Holds.{run_on, cut_behind}
 use Rattle.cg_disk_records.specs.RunLaws.{cut_behind-append, run_on-next}
 use Rattle.cg_disk_records.specs.HeldLaws.{names-behind}

@@ -33,14 +33,14 @@ use Rattle.cg_client.specs.Marks.{is_unmade, newly_known, marked, mark_red, mark
 use Rattle.cg_client.specs.Requests.{empty_buffer}
 use Rattle.cg_client.specs.Summary.{own_to_red, summary_of, enter_exchange}
 use Rattle.cg_client.specs.Install.{actions_named, valid_yellow, yellow_green, reds_green, prim_after, install}
-use Rattle.cg_prim.specs.TransPrim.{end_prim}
-use Rattle.cg_exchange.specs.PlanEnd.{usable_names, take_over, begin_attempt, attempt, decide, end_plan}
-use Rattle.cg_exchange.specs.ExchangeActions.{mark_item, take_item, send_part, messages_in_part, progress, go_on, is_next, exchange_actions_on_item}
-use Rattle.cg_exchange.specs.ExchangeStates.{is_usable, with_heard, exchange_states_on_summary}
-use Rattle.cg_construct.specs.Construct.{attempt_set, is_announced, construct_with, construct_on_cpc}
-use Rattle.cg_construct.specs.No.{no_record, no_with, no_on_cpc}
-use Rattle.cg_construct.specs.Un.{un_on_action}
-use Rattle.cg_model.specs.ReplicaStep.{on_message, on_transitional, on_regular, after_delivery}
+use Rattle.cg_states.specs.TransPrim.{end_prim}
+use Rattle.cg_states.specs.PlanEnd.{usable_names, take_over, begin_attempt, attempt, decide, end_plan}
+use Rattle.cg_states.specs.ExchangeActions.{mark_item, take_item, send_part, messages_in_part, progress, go_on, is_next, exchange_actions_on_item}
+use Rattle.cg_states.specs.ExchangeStates.{is_usable, with_heard, exchange_states_on_summary}
+use Rattle.cg_states.specs.Construct.{attempt_set, is_announced, construct_with, construct_on_cpc}
+use Rattle.cg_states.specs.No.{no_record, no_with, no_on_cpc}
+use Rattle.cg_states.specs.Un.{un_on_action}
+use Rattle.cg_states.specs.ReplicaStep.{on_message, on_transitional, on_regular, after_delivery}
 use Rattle.cg_model.specs.Recorded.{OfMessage}
 use Rattle.cg_model.specs.World.{is_left_state}
 use Rattle.cg_model.specs.Talk.{action_in}

@@ -14,7 +14,7 @@ use Rattle.cg_group.specs.LookupLaws.{at-cond, eqb_comm}
 use Rattle.cg_client.specs.Replica.{Held, State, RegPrim, TransPrim, ExchangeStates, ExchangeActions, Construct, No, Un, NonPrim, Left, Replica}
 use Rattle.cg_client.specs.Turn.{Turn, begin}
 use Rattle.cg_client.specs.Requests.{is_creating, create_kept, buffer, settle, request, request_in}
-use Rattle.cg_construct.specs.Construct.{attempt_set}
+use Rattle.cg_states.specs.Construct.{attempt_set}
 use Rattle.cg_disk_records.specs.Crash.{Disk}
 use Rattle.cg_disk_records.specs.Stored.{stored_of, whiten}
 use Rattle.cg_model.specs.World.{NodeState, Up, Down as DownLife, Node, World, set_life, node_of, replica_of, running}

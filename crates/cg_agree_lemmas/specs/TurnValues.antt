@@ -17,7 +17,7 @@ use Rattle.cg_client.specs.Marks.{is_unmade, marked, mark_red, mark_yellow, can_
 use Rattle.cg_client.specs.Requests.{create, create_kept, empty_buffer, buffer, settle, is_creating, request_in, request}
 use Rattle.cg_client.specs.Summary.{redden, forget_own, own_to_red}
 use Rattle.cg_client.specs.Install.{valid_yellow, yellow_green, reds_green}
-use Rattle.cg_exchange.specs.ExchangeActions.{mark_item, take_item, send_part}
+use Rattle.cg_states.specs.ExchangeActions.{mark_item, take_item, send_part}
 
 -- what is known of primary components, and whose it is
 pub record SameValues (old new : Held) : Type 0 where

@@ -23,7 +23,7 @@ use Rattle.cg_group.specs.Events.{send_all}
 use Rattle.cg_group.specs.State.{GroupState, Standing, set_standing}
 use Rattle.cg_group.specs.declared.delivery.Delivery.{Delivery}
 use Rattle.cg_disk_records.specs.Commit.{commits}
-use Rattle.cg_model.specs.ReplicaStep.{Deliveries, Input, replica_step}
+use Rattle.cg_states.specs.ReplicaStep.{Deliveries, Input, replica_step}
 use Rattle.cg_wire.specs.declared.message.Msg.{Msg}
 
 pub record IsReached (w : World) (smalls : List Small) (p : ℕ) (t : Turn) : Type 0 where

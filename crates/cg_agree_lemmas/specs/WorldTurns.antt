@@ -7,7 +7,7 @@ use Rattle.cg_wire.specs.declared.message.Msg.{Msg}
 use Rattle.cg_group.specs.declared.delivery.Handed.{Handed}
 use Rattle.cg_base.specs.Lists.{Each}
 use Rattle.cg_client.specs.Replica.{Replica}
-use Rattle.cg_model.specs.ReplicaStep.{Input, Deliveries, replica_step}
+use Rattle.cg_states.specs.ReplicaStep.{Input, Deliveries, replica_step}
 use Rattle.cg_disk_records.specs.Crash.{Disk, end_event}
 use Rattle.cg_model.specs.World.{NodeState, Up, Down, Node, World, node_of}
 use Rattle.cg_model.specs.Show.{StepInProgress}

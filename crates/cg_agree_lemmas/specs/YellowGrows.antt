@@ -19,7 +19,7 @@ use Rattle.cg_group.specs.Events.{delivery_at, deliveries_at}
 use Rattle.cg_client.specs.Replica.{State, TransPrim}
 use Rattle.cg_client.specs.Turn.{Turn}
 use Rattle.cg_client.specs.Marks.{is_unmade, marked, mark_yellow}
-use Rattle.cg_model.specs.ReplicaStep.{on_message, after_delivery as take_one}
+use Rattle.cg_states.specs.ReplicaStep.{on_message, after_delivery as take_one}
 use Rattle.cg_model.specs.Fronts.{Front}
 use Rattle.cg_model.specs.Small.{take_all}
 use Rattle.cg_agree_lemmas.specs.FrontFacts.{Front-refl, Front-append, Front-trans}

@@ -15,7 +15,7 @@ use Rattle.cg_wire.specs.declared.message.Msg.TheVariants.{Action as ActionMsg, 
 use Rattle.cg_client.specs.Replica.{Held}
 use Rattle.cg_client.specs.Turn.{Turn}
 use Rattle.cg_client.specs.Marks.{is_unmade, marked, mark_red, can_be_green, place_green, mark_green}
-use Rattle.cg_exchange.specs.ExchangeActions.{mark_item}
+use Rattle.cg_states.specs.ExchangeActions.{mark_item}
 use Rattle.cg_disk_records.specs.Holds.{run_on, Rising}
 use Rattle.cg_disk_records.specs.CutRaiseLaws.{index-same, index-other}
 use Rattle.cg_agree_lemmas.specs.EndCuts.{run-above}

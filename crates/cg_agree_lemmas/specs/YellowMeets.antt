@@ -13,7 +13,7 @@ use Rattle.cg_knowledge.specs.declared.summary.Summary.{Summary}
 use Rattle.cg_knowledge.specs.Summaries.{lowest, most_updated}
 use Rattle.cg_knowledge.specs.Primary.{knows_prim, newest_index, newest}
 use Rattle.cg_knowledge.specs.Yellow.{yellow_group, is_green_at_most, is_in_each, is_common, yellow_of, common_yellow}
-use Rattle.cg_exchange.specs.PlanEnd.{with_name, usable_names}
+use Rattle.cg_states.specs.PlanEnd.{with_name, usable_names}
 use Rattle.cg_disk_records.specs.Holds.{run_on, cut_behind, Rising}
 use Rattle.cg_disk_records.specs.CutRaiseLaws.{rising-raise, index-same, index-other}
 use Rattle.cg_agree_lemmas.specs.EndCovers.{OfEach, lowest-of}

@@ -7,6 +7,7 @@ ghost use Rattle.cg_client.specs.Drafts.{no_parts};
 use crate::DraftParts;
 use cg_action::{Action, ActionList, Limited};
 use cg_base::{ActionId, IdList, NoMemory, Row};
+use cg_encoded::EncodedMsg;
 use cg_report::Reply;
 use cg_wire::Msg;
 use std::alloc::Global;
@@ -15,10 +16,11 @@ use std::marker::Model;
 /// The event under way: what it has brought about so far. It has to be spent, by a commit that takes it apart or by
 /// `abandon`. Clauses see its parts.
 pub struct Draft {
+    alloc: Global,
     pub(crate) known: Limited<Action>,
     pub(crate) green: Limited<ActionId>,
     pub(crate) made: Limited<Action>,
-    pub(crate) sent: Limited<Msg>,
+    pub(crate) sent: Row<EncodedMsg>,
     pub(crate) replies: Row<Reply>,
     pub(crate) marked_own: bool,
 }
@@ -44,21 +46,23 @@ impl Draft {
         ensures { result ≡ no_parts }
     {
         Draft {
+            alloc,
             known: Limited::new(alloc),
             green: Limited::new(alloc),
             made: Limited::new(alloc),
-            sent: Limited::new(alloc),
+            sent: Row::new(alloc),
             replies: Row::new(alloc),
             marked_own: false,
         }
     }
 
-    /// A message is to be sent.
+    /// A message is to be sent. It is spelled at once.
     pub fn send(&mut self, m: Msg) -> Result<(), NoMemory>
         requires { IsMsg m }
         ensures { OnOk result (self.new ≡ record self.old { sent = self.old.sent ++ m ∷ [] }) }
     {
-        self.sent.push(m)
+        let encoded = EncodedMsg::seal(self.alloc, m)?;
+        self.sent.push(encoded)
     }
 
     /// The actions newly known, in the order of their marks.
@@ -86,11 +90,10 @@ impl Draft {
     }
 
     /// The messages to be sent.
-    pub fn sent(&self) -> &Row<Msg>
-        ensures value { result.now ≡ self.now.sent }
-        ensures each { Each IsMsg self.now.sent }
+    pub fn sent(&self) -> &Row<EncodedMsg>
+        ensures { result.now ≡ self.now.sent }
     {
-        self.sent.list()
+        &self.sent
     }
 
     /// The replies to be given.
@@ -113,9 +116,9 @@ impl Draft {
         ensures known { Each IsAction self.known }
         ensures green { Each IsActionId self.green }
         ensures made { Each IsAction self.made }
-        ensures sent { Each IsMsg self.sent }
     {
         let Draft {
+            alloc: _,
             known,
             green,
             made,
@@ -127,7 +130,7 @@ impl Draft {
             known: known.into_list(),
             green: green.into_list(),
             made: made.into_list(),
-            sent: sent.into_list(),
+            sent,
             replies,
             marked_own,
         }

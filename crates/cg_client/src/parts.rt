@@ -1,7 +1,7 @@
 use cg_action::ActionList;
 use cg_base::{IdList, Row};
+use cg_encoded::EncodedMsg;
 use cg_report::Reply;
-use cg_wire::Msg;
 
 /// What an event has brought about: the actions newly known, in the order of their marks; the names newly green, in
 /// order; the actions made; the messages to be sent; the replies to be given; and whether own actions that weren't
@@ -11,7 +11,7 @@ pub struct DraftParts {
     pub known: ActionList,
     pub green: IdList,
     pub made: ActionList,
-    pub sent: Row<Msg>,
+    pub sent: Row<EncodedMsg>,
     pub replies: Row<Reply>,
     pub marked_own: bool,
 }

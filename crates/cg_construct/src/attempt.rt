@@ -1,7 +1,7 @@
 //! The attempt that a replica's record tells of.
 ghost use Rattle.std.specs.Prelude.{◌≡◌, Some, option_map};
 ghost use Rattle.cg_construct.specs.Attempt.{attempt_of};
-ghost use Rattle.cg_construct.specs.Construct.{attempt_set, is_announced};
+ghost use Rattle.cg_states.specs.Construct.{attempt_set, is_announced};
 
 use cg_base::{IdSet, ReplicaId};
 use cg_client::Core;

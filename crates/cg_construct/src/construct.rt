@@ -1,24 +1,26 @@
 ghost use Rattle.std.specs.Prelude.{◌≡◌, [], Some, IsTrue, IsOk, IfOk};
 ghost use Rattle.cg_action.specs.Limits.{IsKind};
 ghost use Rattle.cg_report.specs.declared.line.StateName.TheVariants.{Construct as ConstructName};
-ghost use Rattle.cg_wire.specs.Reading.{message_in};
 ghost use Rattle.cg_client.specs.declared.parts.DraftParts.{DraftParts};
 ghost use Rattle.cg_client.specs.Requests.{request};
 ghost use Rattle.cg_client.specs.Calls.{kind_of, IsLineGreen};
 ghost use Rattle.cg_client.specs.Whitening.{with_white};
 ghost use Rattle.cg_construct.specs.Attempt.{attempt_of, in_construct};
-ghost use Rattle.cg_construct.specs.Construct.{construct_on_cpc};
+ghost use Rattle.cg_states.specs.Construct.{construct_on_cpc};
 ghost use Rattle.cg_prim.specs.Steps.{is_transitional};
 ghost use Rattle.cg_construct.specs.Steps.{turn_after, HasLimits};
-ghost use Rattle.cg_construct.specs.Hearing.{construct_on_message, construct_on_read, construct_on};
+ghost use Rattle.cg_states.specs.ReplicaStep.{on_message};
+ghost use Rattle.cg_states.specs.Hearing.{hear_delivery};
+ghost use Rattle.cg_client.specs.Replica.{Construct as ConstructState};
 
 use crate::attempt::{attempt_set, is_announced, set_of_attempt};
 use crate::{ConstructStep, No};
 use cg_base::{IdSet, NoMemory, ReplicaId};
 use cg_client::{Core, Draft, Installed, Request};
+use cg_encoded::DeliveredMsg;
 use cg_group::Delivery;
 use cg_report::StateName;
-use cg_wire::{Msg, read_message};
+use cg_wire::Msg;
 use std::marker::Model;
 
 /// A member that has announced an attempt, whose record it keeps. Clauses see what it holds, the attempt's configuration
@@ -55,14 +57,22 @@ impl Construct {
     }
 
     /// One delivery. A transitional configuration takes no memory.
-    pub fn deliver(self, draft: &mut Draft, d: &Delivery) -> Result<ConstructStep, NoMemory>
+    #[tactic(auto, unfolding(cg_states::specs::ReplicaStep::on_transitional, cg_states::specs::ReplicaStep::on_regular))]
+    pub fn deliver(
+        self,
+        draft: &mut Draft,
+        d: &Delivery<DeliveredMsg>,
+    ) -> Result<ConstructStep, NoMemory>
         ensures turn { IfOk result (λ step. turn_after step draft.new ≡
-            construct_on (in_construct self draft.old) self.conf self.heard d.now) }
+            hear_delivery (in_construct self draft.old) d.now) }
         ensures limits { IfOk result HasLimits }
         ensures memory { IsTrue (is_transitional d.now) → IsOk result }
     {
         match d {
-            Delivery::Message { from, bytes, .. } => self.hear(draft, *from, bytes.as_slice()),
+            Delivery::Message { from, bytes, .. } => match bytes.message() {
+                Some(message) => self.hear(draft, *from, message),
+                None => Ok(ConstructStep::Construct(self)),
+            },
             Delivery::Transitional { .. } => {
                 let Construct { core, conf, heard } = self;
                 Ok(ConstructStep::No(No::cut_short(core, conf, heard)))
@@ -71,39 +81,20 @@ impl Construct {
         }
     }
 
+    #[tactic(auto, unfolding(cg_states::specs::ReplicaStep::on_message))]
     fn hear(
         self,
         draft: &mut Draft,
         from: ReplicaId,
-        bytes: &[u8],
+        message: &Msg,
     ) -> Result<ConstructStep, NoMemory>
         ensures turn { IfOk result (λ step. turn_after step draft.new ≡
-            construct_on_read (in_construct self draft.old) self.conf self.heard from (message_in bytes.now)) }
-        ensures limits { IfOk result HasLimits }
-    {
-        match read_message(self.core.alloc(), bytes)? {
-            Some(message) => self.hear_message(draft, from, message),
-            None => Ok(ConstructStep::Construct(self)),
-        }
-    }
-
-    #[tactic(auto, unfolding(crate::specs::Hearing::construct_on_message))]
-    fn hear_message(
-        self,
-        draft: &mut Draft,
-        from: ReplicaId,
-        message: Msg,
-    ) -> Result<ConstructStep, NoMemory>
-        ensures turn { IfOk result (λ step. turn_after step draft.new ≡
-            construct_on_message (in_construct self draft.old) self.conf self.heard from message) }
+            on_message (ConstructState self.conf self.heard) from message.now (in_construct self draft.old)) }
         ensures limits { IfOk result HasLimits }
     {
         match message {
-            Msg::Cpc { id, conf } => self.hear_cpc(draft, from, id, conf),
-            Msg::Action(_) => Ok(ConstructStep::Construct(self)),
-            Msg::State(_) => Ok(ConstructStep::Construct(self)),
-            Msg::GreenItem { .. } => Ok(ConstructStep::Construct(self)),
-            Msg::RedItem(_) => Ok(ConstructStep::Construct(self)),
+            Msg::Cpc { id, conf } => self.hear_cpc(draft, from, *id, *conf),
+            _ => Ok(ConstructStep::Construct(self)),
         }
     }
 
@@ -136,18 +127,13 @@ impl Construct {
     }
 
     /// A request is kept.
-    pub fn request(self, r: Request) -> Result<Construct, NoMemory>
+    pub fn request(mut self, r: Request) -> Result<Construct, NoMemory>
         requires { IsKind (kind_of r) }
         ensures { IfOk result (λ s. (draft : DraftParts) →
             in_construct s draft ≡ request (in_construct self draft) (kind_of r)) }
     {
-        let Construct {
-            mut core,
-            conf,
-            heard,
-        } = self;
-        core.keep(r.into_kind())?;
-        Ok(Construct { core, conf, heard })
+        self.core.keep(r.into_kind())?;
+        Ok(self)
     }
 
     pub fn name(&self) -> StateName

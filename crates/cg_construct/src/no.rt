@@ -1,23 +1,25 @@
 ghost use Rattle.std.specs.Prelude.{◌≡◌, Some, IfOk};
 ghost use Rattle.cg_action.specs.Limits.{IsKind};
 ghost use Rattle.cg_report.specs.declared.line.StateName.TheVariants.{No as NoName};
-ghost use Rattle.cg_wire.specs.Reading.{message_in};
 ghost use Rattle.cg_client.specs.declared.parts.DraftParts.{DraftParts};
 ghost use Rattle.cg_client.specs.Requests.{request};
 ghost use Rattle.cg_client.specs.Calls.{kind_of, IsLineGreen};
 ghost use Rattle.cg_client.specs.Whitening.{with_white};
 ghost use Rattle.cg_construct.specs.Attempt.{attempt_of, in_no};
-ghost use Rattle.cg_construct.specs.No.{no_on_cpc};
+ghost use Rattle.cg_states.specs.No.{no_on_cpc};
 ghost use Rattle.cg_construct.specs.Steps.{turn_after, HasLimits};
-ghost use Rattle.cg_construct.specs.Hearing.{no_on_message, no_on_read, no_on};
+ghost use Rattle.cg_states.specs.ReplicaStep.{on_message};
+ghost use Rattle.cg_states.specs.Hearing.{hear_delivery};
+ghost use Rattle.cg_client.specs.Replica.{No as NoState};
 
 use crate::attempt::{attempt_set, is_announced};
 use crate::{ConstructStep, Un};
 use cg_base::{IdSet, NoMemory, ReplicaId};
 use cg_client::{Core, Draft, Request};
+use cg_encoded::DeliveredMsg;
 use cg_group::Delivery;
 use cg_report::StateName;
-use cg_wire::{Msg, read_message};
+use cg_wire::Msg;
 use std::marker::Model;
 
 /// A member whose attempt was cut short before all announcements had come. Clauses see what it holds, the attempt's
@@ -50,13 +52,21 @@ impl No {
     }
 
     /// One delivery.
-    pub fn deliver(self, draft: &mut Draft, d: &Delivery) -> Result<ConstructStep, NoMemory>
+    #[tactic(auto, unfolding(cg_states::specs::ReplicaStep::on_transitional, cg_states::specs::ReplicaStep::on_regular))]
+    pub fn deliver(
+        self,
+        draft: &mut Draft,
+        d: &Delivery<DeliveredMsg>,
+    ) -> Result<ConstructStep, NoMemory>
         ensures turn { IfOk result (λ step. turn_after step draft.new ≡
-            no_on (in_no self draft.old) self.conf self.heard d.now) }
+            hear_delivery (in_no self draft.old) d.now) }
         ensures limits { IfOk result HasLimits }
     {
         match d {
-            Delivery::Message { from, bytes, .. } => self.hear(draft, *from, bytes.as_slice()),
+            Delivery::Message { from, bytes, .. } => match bytes.message() {
+                Some(message) => Ok(self.hear(*from, message)),
+                None => Ok(ConstructStep::No(self)),
+            },
             Delivery::Transitional { .. } => Ok(ConstructStep::No(self)),
             Delivery::Regular { conf, set } => {
                 let No { mut core, .. } = self;
@@ -70,30 +80,14 @@ impl No {
         }
     }
 
-    fn hear(
-        self,
-        draft: &mut Draft,
-        from: ReplicaId,
-        bytes: &[u8],
-    ) -> Result<ConstructStep, NoMemory>
-        ensures turn { IfOk result (λ step. turn_after step draft.new ≡
-            no_on_read (in_no self draft.old) self.conf self.heard from (message_in bytes.now)) }
-        ensures limits { IfOk result HasLimits }
-    {
-        match read_message(self.core.alloc(), bytes)? {
-            Some(message) => Ok(self.hear_message(from, message)),
-            None => Ok(ConstructStep::No(self)),
-        }
-    }
-
-    #[tactic(auto, unfolding(crate::specs::Hearing::no_on_message))]
-    fn hear_message(self, from: ReplicaId, message: Msg) -> ConstructStep
+    #[tactic(auto, unfolding(cg_states::specs::ReplicaStep::on_message))]
+    fn hear(self, from: ReplicaId, message: &Msg) -> ConstructStep
         ensures turn { (draft : DraftParts) →
-            turn_after result draft ≡ no_on_message (in_no self draft) self.conf self.heard from message }
+            turn_after result draft ≡ on_message (NoState self.conf self.heard) from message.now (in_no self draft) }
         ensures limits { HasLimits result }
     {
         match message {
-            Msg::Cpc { id, conf } => self.hear_cpc(from, id, conf),
+            Msg::Cpc { id, conf } => self.hear_cpc(from, *id, *conf),
             _ => ConstructStep::No(self),
         }
     }
@@ -119,17 +113,12 @@ impl No {
     }
 
     /// A request is kept.
-    pub fn request(self, r: Request) -> Result<No, NoMemory>
+    pub fn request(mut self, r: Request) -> Result<No, NoMemory>
         requires { IsKind (kind_of r) }
         ensures { IfOk result (λ s. (draft : DraftParts) → in_no s draft ≡ request (in_no self draft) (kind_of r)) }
     {
-        let No {
-            mut core,
-            conf,
-            heard,
-        } = self;
-        core.keep(r.into_kind())?;
-        Ok(No { core, conf, heard })
+        self.core.keep(r.into_kind())?;
+        Ok(self)
     }
 
     pub fn name(&self) -> StateName

@@ -2,7 +2,9 @@ ghost use Rattle.std.specs.Prelude.{◌≡◌, IfOk};
 ghost use Rattle.cg_wire.specs.Bytes.{spelled_msg};
 ghost use Rattle.cg_wire.specs.Limits.{IsMsg};
 
-use cg_base::{Bytes, NoMemory, Row};
+use crate::DeliveredMsg;
+use crate::delivered_msg::ReadBytes;
+use cg_base::NoMemory;
 use cg_group::TryClone;
 use cg_wire::{Msg, encode, messages_are_exact};
 use std::alloc::Global;
@@ -10,12 +12,12 @@ use std::marker::Model;
 
 /// A message in bytes. Clauses see the message.
 pub struct EncodedMsg {
-    bytes: Bytes,
+    delivered: DeliveredMsg,
 }
 
 impl Drop for EncodedMsg {
     fn drop(self) {
-        let EncodedMsg { bytes: _ } = self;
+        let EncodedMsg { delivered: _ } = self;
     }
 }
 
@@ -25,49 +27,50 @@ impl Model for EncodedMsg {
 
     ghost Value = { Msg };
 
-    ghost view = { λ m. encoded_by m.bytes };
+    ghost view = { λ m. encoded_by m.delivered };
 
-    ghost invariant = { λ m. IsEncoded m.bytes };
+    ghost invariant = { λ m. IsEncoded m.delivered };
 }
 
 impl EncodedMsg {
     /// The message in bytes.
-    pub fn seal(alloc: Global, m: &Msg) -> Result<EncodedMsg, NoMemory>
-        requires { IsMsg m.now }
-        ensures { IfOk result (λ encoded. encoded ≡ m.now) }
+    pub fn seal(alloc: Global, m: Msg) -> Result<EncodedMsg, NoMemory>
+        requires { IsMsg m }
+        ensures { IfOk result (λ encoded. encoded ≡ m) }
     {
         messages_are_exact();
-        let bytes = encode(alloc, m)?;
-        Ok(EncodedMsg { bytes })
+        let bytes = encode(alloc, &m)?;
+        let message = Some(m);
+        let delivered = DeliveredMsg::share(alloc, ReadBytes { bytes, message })?;
+        Ok(EncodedMsg { delivered })
     }
 
-    /// The bytes, to keep. It takes no memory.
-    pub fn into_bytes(self) -> Bytes
+    /// The bytes with what they spell, to hand over. It takes no memory.
+    pub fn into_delivered(self) -> DeliveredMsg
         ensures { result ≡ spelled_msg self }
     {
-        let EncodedMsg { bytes } = self;
-        bytes
+        let EncodedMsg { delivered } = self;
+        delivered
     }
 
     // What it says is within the limits of a message.
     pub(crate) fn holds(&self)
         ensures { IsMsg self.now }
     {
-        let _bytes = &self.bytes;
+        let _delivered = &self.delivered;
     }
 
     /// The bytes. It takes no memory.
     pub fn as_bytes(&self) -> &[u8]
         ensures { result.now ≡ spelled_msg self.now }
     {
-        self.bytes.as_slice()
+        self.delivered.as_slice()
     }
 }
 
 impl TryClone for EncodedMsg {
     fn try_clone(&self, alloc: Global) -> Result<EncodedMsg, NoMemory> {
-        Ok(EncodedMsg {
-            bytes: Row::from_slice(alloc, self.bytes.as_slice())?,
-        })
+        let delivered = self.delivered.try_clone(alloc)?;
+        Ok(EncodedMsg { delivered })
     }
 }

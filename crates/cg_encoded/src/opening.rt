@@ -1,13 +1,16 @@
 ghost use Rattle.std.specs.Prelude.{◌≡◌, IfOk, OnOk, map};
 ghost use Rattle.cg_encoded.specs.Encoded.{opened, IsSaid, AreSaid};
 
-use crate::EncodedMsg;
+use crate::{DeliveredMsg, EncodedMsg};
 use cg_base::{NoMemory, Row};
-use cg_group::{Delivery, DeliveryList};
+use cg_group::Delivery;
 use std::alloc::Global;
 
+/// Deliveries, in order, of bytes that were read.
+pub type DeliveredList = Row<Delivery<DeliveredMsg>>;
+
 // what is handed over, with its message in bytes
-fn opened(one: Delivery<EncodedMsg>) -> Delivery
+fn opened(one: Delivery<EncodedMsg>) -> Delivery<DeliveredMsg>
     ensures opened { result ≡ opened one }
     ensures said { IsSaid one }
 {
@@ -17,7 +20,7 @@ fn opened(one: Delivery<EncodedMsg>) -> Delivery
             Delivery::Message {
                 place,
                 from,
-                bytes: bytes.into_bytes(),
+                bytes: bytes.into_delivered(),
             }
         }
         Delivery::Transitional { conf, set } => Delivery::Transitional { conf, set },
@@ -26,7 +29,7 @@ fn opened(one: Delivery<EncodedMsg>) -> Delivery
 }
 
 /// All that is handed to a replica, with the messages in bytes.
-pub fn open_all(alloc: Global, list: Row<Delivery<EncodedMsg>>) -> Result<DeliveryList, NoMemory>
+pub fn open_all(alloc: Global, list: Row<Delivery<EncodedMsg>>) -> Result<DeliveredList, NoMemory>
     ensures opened { IfOk result (λ all. all ≡ map opened list) }
 
     // Each message is within its limits, and so is the one that its bytes spell.

@@ -10,7 +10,7 @@ use Rattle.cg_model.specs.Following.{Follows}
 use Rattle.cg_disk_records.specs.Holds.{Holds}
 use Rattle.cg_disk_records.specs.Always.{AlwaysHolds, AlwaysCounts, AlwaysSettled}
 use Rattle.cg_model.specs.Recorded.{AlwaysKept, AlwaysRecorded, AlwaysAhead, AreBooked}
-use Rattle.cg_model.specs.ReplicaStep.{Input, replica_step}
+use Rattle.cg_states.specs.ReplicaStep.{Input, replica_step}
 use Rattle.cg_store.specs.Opening.{IsSound}
 use Rattle.cg_store.specs.Stands.{OnDisk, disk_of, committed, checkpointed}
 use Rattle.cg_engine.specs.Ending.{MayEnd}

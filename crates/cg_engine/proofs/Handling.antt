@@ -11,7 +11,7 @@ use Rattle.cg_disk_records.specs.Commit.{commits}
 use Rattle.cg_model.specs.Following.{Follows}
 use Rattle.cg_disk_records.specs.Always.{AlwaysHolds, AlwaysCounts, AlwaysSettled}
 use Rattle.cg_model.specs.Recorded.{AlwaysKept, AlwaysRecorded, AlwaysAhead, AreBooked}
-use Rattle.cg_model.specs.ReplicaStep.{Input, replica_step}
+use Rattle.cg_states.specs.ReplicaStep.{Input, replica_step}
 use Rattle.cg_store.specs.StoreState.{StoreState}
 use Rattle.cg_store.specs.MomentLaws.{stands_once}
 use Rattle.cg_store.specs.Stands.{OnDisk, Stands, disk_of}

@@ -7,3 +7,4 @@ mod Starting
 mod Rising
 mod Handling
 mod Defining
+mod Leaving

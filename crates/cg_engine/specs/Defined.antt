@@ -9,7 +9,7 @@ use Rattle.cg_client.specs.Replica.{Held}
 use Rattle.cg_client.specs.Turn.{Turn}
 use Rattle.cg_disk_records.specs.Crash.{Strike, Disk, Runs, Crashes, end_event}
 use Rattle.cg_model.specs.Recorded.{AreBooked}
-use Rattle.cg_model.specs.ReplicaStep.{Input, replica_step}
+use Rattle.cg_states.specs.ReplicaStep.{Input, replica_step}
 use Rattle.cg_store.specs.Defined.{strike_at}
 use Rattle.cg_store.specs.Stands.{OnDisk, Stands, disk_of}
 use Rattle.cg_engine.specs.Engines.{Up, Fallen, IsEngine, told}

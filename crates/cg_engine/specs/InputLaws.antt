@@ -12,8 +12,8 @@ use Rattle.cg_encoded.specs.Encoded.{opened, IsSaid, AreSaid}
 use Rattle.cg_client.specs.Replica.{Replica}
 use Rattle.cg_client.specs.Requests.{settle}
 use Rattle.cg_client.specs.Turn.{Turn, begin}
-use Rattle.cg_model.specs.Hearing.{hear, hear_delivery}
-use Rattle.cg_model.specs.ReplicaStep.{after_delivery, replica_step}
+use Rattle.cg_states.specs.Hearing.{hear, hear_delivery}
+use Rattle.cg_states.specs.ReplicaStep.{after_delivery, replica_step}
 use Rattle.cg_engine.specs.declared.input.Input.{Input}
 use Rattle.cg_engine.specs.declared.input.Input.TheVariants.{Deliver, Request}
 use Rattle.cg_engine.specs.Inputs.{with_message, read, read_all, input_of, taken}

@@ -8,8 +8,8 @@ use Rattle.cg_group.specs.declared.delivery.Delivery.TheVariants.{Message, Trans
 use Rattle.cg_client.specs.Requests.{request, settle}
 use Rattle.cg_client.specs.Calls.{kind_of}
 use Rattle.cg_client.specs.Turn.{Turn}
-use Rattle.cg_model.specs.Hearing.{hear_delivery}
-use Rattle.cg_model.specs.ReplicaStep.{Input, Deliveries, Asks}
+use Rattle.cg_states.specs.Hearing.{hear_delivery}
+use Rattle.cg_states.specs.ReplicaStep.{Input, Deliveries, Asks}
 use Rattle.cg_engine.specs.declared.input.Input.{Input as Given}
 use Rattle.cg_engine.specs.declared.input.Input.TheVariants.{Deliver, Request}
 

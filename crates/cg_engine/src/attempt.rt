@@ -6,12 +6,13 @@ ghost use Rattle.cg_client.specs.Queries.{state_name};
 ghost use Rattle.cg_client.specs.Requests.{is_creating, request};
 ghost use Rattle.cg_client.specs.Calls.{kind_of, IsLineGreen};
 ghost use Rattle.cg_construct.specs.Steps.{turn_after, HasLimits};
-ghost use Rattle.cg_model.specs.Hearing.{hear_delivery};
+ghost use Rattle.cg_states.specs.Hearing.{hear_delivery};
 ghost use Rattle.cg_engine.specs.Seen.{attempt_seen, turn_of, white_in};
 
 use cg_base::NoMemory;
 use cg_client::{Core, Draft, Request};
 use cg_construct::{Construct, ConstructStep, No, Un};
+use cg_encoded::DeliveredMsg;
 use cg_group::Delivery;
 use cg_report::StateName;
 
@@ -22,7 +23,7 @@ pub(crate) enum InAttempt {
     Un(Un),
 }
 
-pub(crate) fn hear(s: InAttempt, draft: &mut Draft, d: &Delivery) -> Result<ConstructStep, NoMemory>
+pub(crate) fn hear(s: InAttempt, draft: &mut Draft, d: &Delivery<DeliveredMsg>) -> Result<ConstructStep, NoMemory>
     ensures turn { IfOk result (λ step. turn_after step draft.new ≡
         hear_delivery (turn_of (attempt_seen s) draft.old) d.now) }
     ensures limits { IfOk result HasLimits }

@@ -99,7 +99,7 @@ fn told(alloc: Global, last: LastEvent, more: bool) -> IdList
 
 impl<D: Disk> Engine<D> {
     ghost use Rattle.cg_model.specs.Recorded.{AreBooked};
-    ghost use Rattle.cg_model.specs.ReplicaStep.{replica_step};
+    ghost use Rattle.cg_states.specs.ReplicaStep.{replica_step};
     ghost use Rattle.cg_disk_records.specs.Commit.{commits};
     ghost use Rattle.cg_disk.specs.View.{IsAtRest};
     ghost use Rattle.cg_store.specs.Stands.{OnDisk, Stands};

@@ -11,7 +11,7 @@ ghost use Rattle.cg_client.specs.Drafts.{turn_with};
 ghost use Rattle.cg_prim.specs.Steps.{turn_after as behind_prim};
 ghost use Rattle.cg_exchange.specs.Steps.{turn_after as behind_exchange, HasRecord};
 ghost use Rattle.cg_construct.specs.Steps.{turn_after as behind_construct, HasLimits};
-ghost use Rattle.cg_model.specs.Hearing.{hear_delivery};
+ghost use Rattle.cg_states.specs.Hearing.{hear_delivery};
 ghost use Rattle.cg_engine.specs.Seen.{seen, turn_of, white_in};
 
 use crate::attempt::InAttempt;
@@ -22,6 +22,7 @@ use cg_base::{IdSet, NoMemory};
 use cg_client::{Core, Draft, Request};
 use cg_construct::{Construct, ConstructStep};
 use cg_exchange::{ExchangeStates, ExchangeStep};
+use cg_encoded::DeliveredMsg;
 use cg_group::Delivery;
 use cg_prim::{PrimStep, RegPrim, TransPrim};
 use cg_report::StateName;
@@ -89,7 +90,7 @@ fn after_construct(step: ConstructStep, draft: &mut Draft) -> Result<MemberState
 pub(crate) fn hear(
     member: MemberState,
     draft: &mut Draft,
-    d: &Delivery,
+    d: &Delivery<DeliveredMsg>,
 ) -> Result<MemberState, NoMemory>
     ensures { IfOk result (λ m. turn_of (seen m) draft.new ≡ hear_delivery (turn_of (seen member) draft.old) d.now) }
 {

@@ -5,12 +5,13 @@ ghost use Rattle.cg_client.specs.Queries.{state_name};
 ghost use Rattle.cg_client.specs.Requests.{is_creating, request, settle};
 ghost use Rattle.cg_client.specs.Calls.{kind_of, IsLineGreen};
 ghost use Rattle.cg_exchange.specs.Steps.{turn_after, HasRecord};
-ghost use Rattle.cg_model.specs.Hearing.{hear_delivery};
+ghost use Rattle.cg_states.specs.Hearing.{hear_delivery};
 ghost use Rattle.cg_engine.specs.Seen.{outside_seen, turn_of, white_in};
 
 use cg_base::NoMemory;
 use cg_client::{Core, Draft, Request};
 use cg_exchange::{ExchangeActions, ExchangeStates, ExchangeStep, NonPrim};
+use cg_encoded::DeliveredMsg;
 use cg_group::Delivery;
 use cg_report::StateName;
 
@@ -21,7 +22,7 @@ pub(crate) enum OutOfPrim {
     Actions(ExchangeActions),
 }
 
-pub(crate) fn hear(s: OutOfPrim, draft: &mut Draft, d: &Delivery) -> Result<ExchangeStep, NoMemory>
+pub(crate) fn hear(s: OutOfPrim, draft: &mut Draft, d: &Delivery<DeliveredMsg>) -> Result<ExchangeStep, NoMemory>
     ensures turn { IfOk result (λ step. turn_after step draft.new ≡
         hear_delivery (turn_of (outside_seen s) draft.old) d.now) }
     ensures record { IfOk result HasRecord }

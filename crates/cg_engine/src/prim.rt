@@ -5,11 +5,12 @@ ghost use Rattle.cg_client.specs.Queries.{state_name};
 ghost use Rattle.cg_client.specs.Requests.{is_creating, request, settle};
 ghost use Rattle.cg_client.specs.Calls.{kind_of, IsLineGreen};
 ghost use Rattle.cg_prim.specs.Steps.{turn_after};
-ghost use Rattle.cg_model.specs.Hearing.{hear_delivery};
+ghost use Rattle.cg_states.specs.Hearing.{hear_delivery};
 ghost use Rattle.cg_engine.specs.Seen.{prim_seen, turn_of, white_in};
 
 use cg_base::NoMemory;
 use cg_client::{Core, Draft, Request};
+use cg_encoded::DeliveredMsg;
 use cg_group::Delivery;
 use cg_prim::{PrimStep, RegPrim, TransPrim};
 use cg_report::StateName;
@@ -20,7 +21,7 @@ pub(crate) enum InPrim {
     Trans(TransPrim),
 }
 
-pub(crate) fn hear(s: InPrim, draft: &mut Draft, d: &Delivery) -> Result<PrimStep, NoMemory>
+pub(crate) fn hear(s: InPrim, draft: &mut Draft, d: &Delivery<DeliveredMsg>) -> Result<PrimStep, NoMemory>
     ensures { IfOk result (λ step. turn_after step draft.new ≡ hear_delivery (turn_of (prim_seen s) draft.old) d.now) }
 {
     match s {

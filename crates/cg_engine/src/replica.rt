@@ -5,8 +5,8 @@ ghost use Rattle.cg_client.specs.Replica.{fresh};
 ghost use Rattle.cg_client.specs.Requests.{is_creating, request, settle};
 ghost use Rattle.cg_client.specs.Calls.{kind_of, IsLineGreen};
 ghost use Rattle.cg_disk_records.specs.Stored.{recovery_turn};
-ghost use Rattle.cg_model.specs.Hearing.{hear_delivery};
-ghost use Rattle.cg_model.specs.ReplicaStep.{replica_step};
+ghost use Rattle.cg_states.specs.Hearing.{hear_delivery};
+ghost use Rattle.cg_states.specs.ReplicaStep.{replica_step};
 ghost use Rattle.cg_engine.specs.Inputs.{input_of, taken, HasLimits};
 ghost use Rattle.cg_engine.specs.Seen.{turn_of, white_in, has_left};
 
@@ -18,6 +18,7 @@ use crate::out_of_prim::OutOfPrim;
 use cg_base::{NoMemory, ReplicaId, WeightSet};
 use cg_client::{Core, Draft, Request};
 use cg_exchange::NonPrim;
+use cg_encoded::DeliveredMsg;
 use cg_group::Delivery;
 use cg_report::StateName;
 use std::alloc::Global;
@@ -74,7 +75,7 @@ impl Replica {
     }
 
     /// One delivery.
-    pub fn hear(self, draft: &mut Draft, d: &Delivery) -> Result<Replica, NoMemory>
+    pub fn hear(self, draft: &mut Draft, d: &Delivery<DeliveredMsg>) -> Result<Replica, NoMemory>
         ensures { IfOk result (λ r. turn_of r draft.new ≡ hear_delivery (turn_of self draft.old) d.now) }
     {
         let Replica { member } = self;
@@ -83,7 +84,7 @@ impl Replica {
     }
 
     /// Deliveries, in their order.
-    pub fn hear_all(self, draft: &mut Draft, list: &[Delivery]) -> Result<Replica, NoMemory>
+    pub fn hear_all(self, draft: &mut Draft, list: &[Delivery<DeliveredMsg>]) -> Result<Replica, NoMemory>
         ensures { IfOk result (λ r. turn_of r draft.new ≡ fold hear_delivery (turn_of self draft.old) list.now) }
     {
         let mut replica = self;

@@ -8,7 +8,7 @@ use Rattle.cg_queue.specs.Answers.{AreReds}
 use Rattle.cg_queue.specs.Distinct.{is_distinct}
 use Rattle.cg_queue.specs.DistinctLaws.{apart-back, names-apart, no-name, distinct-behind}
 use Rattle.cg_queue.specs.Queue.{QueueView, names_of}
-use Rattle.cg_exchange.specs.PlanEnd.{with_name, usable_names}
+use Rattle.cg_states.specs.PlanEnd.{with_name, usable_names}
 
 reds-push : (q : QueueView) (ids : List ActionId) (id : ActionId) → AreReds q ids → has_name (names_of q.reds) id ≡ true → AreReds q (ids ++ id ∷ [])
 reds-push q [] id reds red = (red, tt)

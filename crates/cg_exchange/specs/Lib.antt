@@ -1,6 +1,2 @@
 pub mod States
-pub mod PlanEnd
-pub mod ExchangeActions
-pub mod ExchangeStates
-pub mod Hearing
 pub mod Steps

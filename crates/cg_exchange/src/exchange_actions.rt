@@ -5,7 +5,6 @@ ghost use Rattle.cg_plan.specs.Plan.{plan_of};
 ghost use Rattle.cg_plan.specs.Progress.{is_wanted, next_item};
 ghost use Rattle.cg_report.specs.declared.line.StateName.TheVariants.{ExchangeActions as ExchangeActionsName};
 ghost use Rattle.cg_wire.specs.Limits.{IsMsg};
-ghost use Rattle.cg_wire.specs.Reading.{message_in};
 ghost use Rattle.cg_wire.specs.declared.message.Msg.TheVariants.{GreenItem, RedItem};
 ghost use Rattle.cg_client.specs.declared.parts.DraftParts.{DraftParts};
 ghost use Rattle.cg_client.specs.Drafts.{turn_with};
@@ -13,10 +12,12 @@ ghost use Rattle.cg_client.specs.Replica.{State};
 ghost use Rattle.cg_client.specs.Requests.{request};
 ghost use Rattle.cg_client.specs.Calls.{kind_of, IsLineGreen};
 ghost use Rattle.cg_client.specs.Whitening.{with_white};
-ghost use Rattle.cg_exchange.specs.ExchangeActions.{progress, take_item, go_on, exchange_actions_on_item};
+ghost use Rattle.cg_states.specs.ExchangeActions.{progress, take_item, go_on, exchange_actions_on_item};
 ghost use Rattle.cg_exchange.specs.States.{in_actions};
 ghost use Rattle.cg_exchange.specs.Steps.{turn_after, HasRecord};
-ghost use Rattle.cg_exchange.specs.Hearing.{exchange_actions_on_message, exchange_actions_on_read, exchange_actions_on};
+ghost use Rattle.cg_states.specs.ReplicaStep.{on_message};
+ghost use Rattle.cg_states.specs.Hearing.{hear_delivery};
+ghost use Rattle.cg_client.specs.Replica.{ExchangeActions as ExchangeActionsState};
 
 use crate::plan_end::end_plan;
 use crate::sending::send_turn;
@@ -24,11 +25,12 @@ use crate::{ExchangeStep, NonPrim};
 use cg_action::Action;
 use cg_base::{ActionId, NoMemory, ReplicaId, Row};
 use cg_client::{Core, Draft, Request};
+use cg_encoded::DeliveredMsg;
 use cg_group::Delivery;
 use cg_knowledge::{Summary, gone};
 use cg_plan::{Item, Plan};
 use cg_report::StateName;
-use cg_wire::{Msg, read_message};
+use cg_wire::Msg;
 use std::marker::Model;
 
 /// A member that follows the plan of the summaries. Clauses see what it holds, the configuration, the summaries, and how
@@ -65,16 +67,17 @@ fn take_green(
     draft: &mut Draft,
     summaries: &[Summary],
     at: u64,
-    a: Action,
+    a: &Action,
 ) -> Result<(), NoMemory>
-    requires { IsAction a }
+    requires { IsAction a.now }
     ensures { OnOk result ((state : State) → turn_with core.new state draft.new ≡
-        take_item (turn_with core.old state draft.old) summaries.now (GreenItem at a)) }
+        take_item (turn_with core.old state draft.old) summaries.now (GreenItem at a.now)) }
 {
     if gone(summaries).contains(core.id()) {
         return Ok(());
     }
-    core.mark_green_at(draft, at, a)
+    let copy = a.copy(core.alloc())?;
+    core.mark_green_at(draft, at, copy)
 }
 
 // a red item becomes red; a member that has left ignores what it holds
@@ -82,22 +85,24 @@ fn take_red(
     core: &mut Core,
     draft: &mut Draft,
     summaries: &[Summary],
-    a: Action,
+    a: &Action,
 ) -> Result<(), NoMemory>
-    requires { IsAction a }
+    requires { IsAction a.now }
     ensures { OnOk result ((state : State) →
-        turn_with core.new state draft.new ≡ take_item (turn_with core.old state draft.old) summaries.now (RedItem a)) }
+        turn_with core.new state draft.new ≡ take_item (turn_with core.old state draft.old) summaries.now
+        (RedItem a.now)) }
 {
     if gone(summaries).contains(core.id()) {
         return Ok(());
     }
-    core.mark_red(draft, a)
+    let copy = a.copy(core.alloc())?;
+    core.mark_red(draft, copy)
 }
 
 impl ExchangeActions {
     /// So many items of the plan were accepted: the member sends its part where its turn has come, and the plan may be at
     /// its end.
-    #[tactic(auto, unfolding(crate::specs::ExchangeActions::go_on))]
+    #[tactic(auto, unfolding(cg_states::specs::ExchangeActions::go_on))]
     pub(crate) fn follow(
         core: Core,
         draft: &mut Draft,
@@ -123,13 +128,21 @@ impl ExchangeActions {
     }
 
     /// One delivery.
-    pub fn deliver(self, draft: &mut Draft, d: &Delivery) -> Result<ExchangeStep, NoMemory>
+    #[tactic(auto, unfolding(cg_states::specs::ReplicaStep::on_transitional, cg_states::specs::ReplicaStep::on_regular))]
+    pub fn deliver(
+        self,
+        draft: &mut Draft,
+        d: &Delivery<DeliveredMsg>,
+    ) -> Result<ExchangeStep, NoMemory>
         ensures turn { IfOk result (λ step. turn_after step draft.new ≡
-            exchange_actions_on (in_actions self draft.old) self.conf self.summaries self.accepted d.now) }
+            hear_delivery (in_actions self draft.old) d.now) }
         ensures record { IfOk result HasRecord }
     {
         match d {
-            Delivery::Message { from, bytes, .. } => self.hear(draft, *from, bytes.as_slice()),
+            Delivery::Message { from, bytes, .. } => match bytes.message() {
+                Some(message) => self.hear(draft, *from, message),
+                None => Ok(ExchangeStep::Actions(self)),
+            },
             Delivery::Transitional { .. } => {
                 let ExchangeActions { core, .. } = self;
                 Ok(ExchangeStep::Non(NonPrim::of(core, false)))
@@ -138,38 +151,21 @@ impl ExchangeActions {
         }
     }
 
+    #[tactic(auto, unfolding(cg_states::specs::ReplicaStep::on_message))]
     fn hear(
         self,
         draft: &mut Draft,
         from: ReplicaId,
-        bytes: &[u8],
+        message: &Msg,
     ) -> Result<ExchangeStep, NoMemory>
+        requires { IsMsg message.now }
         ensures turn { IfOk result (λ step. turn_after step draft.new ≡
-            exchange_actions_on_read (in_actions self draft.old) self.conf self.summaries self.accepted
-            from (message_in bytes.now)) }
-        ensures record { IfOk result HasRecord }
-    {
-        match read_message(self.core.alloc(), bytes)? {
-            Some(message) => self.hear_message(draft, from, message),
-            None => Ok(ExchangeStep::Actions(self)),
-        }
-    }
-
-    #[tactic(auto, unfolding(crate::specs::Hearing::exchange_actions_on_message))]
-    fn hear_message(
-        self,
-        draft: &mut Draft,
-        from: ReplicaId,
-        message: Msg,
-    ) -> Result<ExchangeStep, NoMemory>
-        requires { IsMsg message }
-        ensures turn { IfOk result (λ step. turn_after step draft.new ≡
-            exchange_actions_on_message (in_actions self draft.old) self.conf self.summaries
-            self.accepted from message) }
+            on_message (ExchangeActionsState self.conf self.summaries self.accepted) from message.now
+            (in_actions self draft.old)) }
         ensures record { IfOk result HasRecord }
     {
         match message {
-            Msg::GreenItem { at, action } => self.hear_green(draft, from, at, action),
+            Msg::GreenItem { at, action } => self.hear_green(draft, from, *at, action),
             Msg::RedItem(action) => self.hear_red(draft, from, action),
             _ => Ok(ExchangeStep::Actions(self)),
         }
@@ -191,12 +187,12 @@ impl ExchangeActions {
         draft: &mut Draft,
         from: ReplicaId,
         at: u64,
-        action: Action,
+        action: &Action,
     ) -> Result<ExchangeStep, NoMemory>
-        requires { IsAction action }
+        requires { IsAction action.now }
         ensures turn { IfOk result (λ step. turn_after step draft.new ≡
             exchange_actions_on_item (in_actions self draft.old) self.conf self.summaries self.accepted
-            from (GreenItem at action)) }
+            from (GreenItem at action.now)) }
         ensures record { IfOk result HasRecord }
     {
         if !self.accepts(from, &Item::Green { at }) {
@@ -216,15 +212,15 @@ impl ExchangeActions {
         mut self,
         draft: &mut Draft,
         from: ReplicaId,
-        action: Action,
+        action: &Action,
     ) -> Result<ExchangeStep, NoMemory>
-        requires { IsAction action }
+        requires { IsAction action.now }
         ensures turn { IfOk result (λ step. turn_after step draft.new ≡
             exchange_actions_on_item (in_actions self draft.old) self.conf self.summaries self.accepted
-            from (RedItem action)) }
+            from (RedItem action.now)) }
         ensures record { IfOk result HasRecord }
     {
-        let id = name_of(&action);
+        let id = name_of(action);
         if !self.accepts(from, &Item::Red { id }) {
             return Ok(ExchangeStep::Actions(self));
         }
@@ -239,24 +235,13 @@ impl ExchangeActions {
     }
 
     /// A request is kept.
-    pub fn request(self, r: Request) -> Result<ExchangeActions, NoMemory>
+    pub fn request(mut self, r: Request) -> Result<ExchangeActions, NoMemory>
         requires { IsKind (kind_of r) }
         ensures { IfOk result (λ s. (draft : DraftParts) →
             in_actions s draft ≡ request (in_actions self draft) (kind_of r)) }
     {
-        let ExchangeActions {
-            mut core,
-            conf,
-            summaries,
-            plan,
-        } = self;
-        core.keep(r.into_kind())?;
-        Ok(ExchangeActions {
-            core,
-            conf,
-            summaries,
-            plan,
-        })
+        self.core.keep(r.into_kind())?;
+        Ok(self)
     }
 
     pub fn name(&self) -> StateName

@@ -1,7 +1,6 @@
 ghost use Rattle.std.specs.Prelude.{◌≡◌, IfOk};
 ghost use Rattle.cg_action.specs.Limits.{IsKind};
 ghost use Rattle.cg_report.specs.declared.line.StateName.TheVariants.{ExchangeStates as ExchangeStatesName};
-ghost use Rattle.cg_wire.specs.Reading.{message_in};
 ghost use Rattle.cg_client.specs.declared.parts.DraftParts.{DraftParts};
 ghost use Rattle.cg_client.specs.Drafts.{turn_with};
 ghost use Rattle.cg_client.specs.Replica.{State};
@@ -9,20 +8,23 @@ ghost use Rattle.cg_client.specs.Requests.{request};
 ghost use Rattle.cg_client.specs.Calls.{kind_of, IsLineGreen};
 ghost use Rattle.cg_client.specs.Summary.{enter_exchange};
 ghost use Rattle.cg_client.specs.Whitening.{with_white};
-ghost use Rattle.cg_exchange.specs.ExchangeActions.{go_on};
-ghost use Rattle.cg_exchange.specs.ExchangeStates.{is_usable, with_heard, exchange_states_on_summary};
+ghost use Rattle.cg_states.specs.ExchangeActions.{go_on};
+ghost use Rattle.cg_states.specs.ExchangeStates.{is_usable, with_heard, exchange_states_on_summary};
 ghost use Rattle.cg_exchange.specs.States.{in_states};
 ghost use Rattle.cg_exchange.specs.Steps.{turn_after, HasRecord};
-ghost use Rattle.cg_exchange.specs.Hearing.{exchange_states_on_message, exchange_states_on_read, exchange_states_on};
+ghost use Rattle.cg_states.specs.ReplicaStep.{on_message};
+ghost use Rattle.cg_states.specs.Hearing.{hear_delivery};
+ghost use Rattle.cg_client.specs.Replica.{ExchangeStates as ExchangeStatesState};
 
 use crate::{ExchangeActions, ExchangeStep, NonPrim};
 use cg_base::{IdSet, NoMemory, ReplicaId, Row};
 use cg_client::{Core, Draft, Request};
+use cg_encoded::DeliveredMsg;
 use cg_group::Delivery;
 use cg_knowledge::{Summary, senders};
 use cg_plan::Plan;
 use cg_report::StateName;
-use cg_wire::{Msg, read_message};
+use cg_wire::Msg;
 use std::marker::Model;
 
 /// A member that waits for what the others hold. Clauses see what it holds itself, the configuration with its members, and
@@ -89,13 +91,21 @@ impl ExchangeStates {
     }
 
     /// One delivery.
-    pub fn deliver(self, draft: &mut Draft, d: &Delivery) -> Result<ExchangeStep, NoMemory>
+    #[tactic(auto, unfolding(cg_states::specs::ReplicaStep::on_transitional, cg_states::specs::ReplicaStep::on_regular))]
+    pub fn deliver(
+        self,
+        draft: &mut Draft,
+        d: &Delivery<DeliveredMsg>,
+    ) -> Result<ExchangeStep, NoMemory>
         ensures turn { IfOk result (λ step. turn_after step draft.new ≡
-            exchange_states_on (in_states self draft.old) self.conf self.set self.heard d.now) }
+            hear_delivery (in_states self draft.old) d.now) }
         ensures record { IfOk result HasRecord }
     {
         match d {
-            Delivery::Message { from, bytes, .. } => self.hear(draft, *from, bytes.as_slice()),
+            Delivery::Message { from, bytes, .. } => match bytes.message() {
+                Some(message) => self.hear(draft, *from, message),
+                None => Ok(ExchangeStep::States(self)),
+            },
             Delivery::Transitional { .. } => {
                 let ExchangeStates { core, .. } = self;
                 Ok(ExchangeStep::Non(NonPrim::of(core, false)))
@@ -104,67 +114,40 @@ impl ExchangeStates {
         }
     }
 
+    #[tactic(auto, unfolding(cg_states::specs::ReplicaStep::on_message))]
     fn hear(
         self,
         draft: &mut Draft,
         from: ReplicaId,
-        bytes: &[u8],
+        message: &Msg,
     ) -> Result<ExchangeStep, NoMemory>
         ensures turn { IfOk result (λ step. turn_after step draft.new ≡
-            exchange_states_on_read (in_states self draft.old) self.conf self.set self.heard
-            from (message_in bytes.now)) }
-        ensures record { IfOk result HasRecord }
-    {
-        match read_message(self.core.alloc(), bytes)? {
-            Some(message) => self.hear_message(draft, from, message),
-            None => Ok(ExchangeStep::States(self)),
-        }
-    }
-
-    #[tactic(auto, unfolding(crate::specs::Hearing::exchange_states_on_message))]
-    fn hear_message(
-        self,
-        draft: &mut Draft,
-        from: ReplicaId,
-        message: Msg,
-    ) -> Result<ExchangeStep, NoMemory>
-        ensures turn { IfOk result (λ step. turn_after step draft.new ≡
-            exchange_states_on_message (in_states self draft.old) self.conf self.set self.heard from message) }
+            on_message (ExchangeStatesState self.conf self.set self.heard) from message.now
+            (in_states self draft.old)) }
         ensures record { IfOk result HasRecord }
     {
         match message {
-            Msg::State(summary) => self.hear_summary(draft, from, summary.into_summary()),
+            Msg::State(summary) => self.hear_summary(draft, from, summary.get()),
             _ => Ok(ExchangeStep::States(self)),
         }
     }
 
     fn hear_summary(
-        self,
+        mut self,
         draft: &mut Draft,
         from: ReplicaId,
-        s: Summary,
+        s: &Summary,
     ) -> Result<ExchangeStep, NoMemory>
         ensures turn { IfOk result (λ step. turn_after step draft.new ≡
-            exchange_states_on_summary (in_states self draft.old) self.conf self.set self.heard from s) }
+            exchange_states_on_summary (in_states self draft.old) self.conf self.set self.heard from s.now) }
         ensures record { IfOk result HasRecord }
     {
-        if !is_usable(self.conf, self.heard.as_slice(), from, &s) {
+        if !is_usable(self.conf, self.heard.as_slice(), from, s) {
             return Ok(ExchangeStep::States(self));
         }
-        let ExchangeStates {
-            core,
-            conf,
-            set,
-            mut heard,
-        } = self;
-        heard.push(s)?;
-        ExchangeStates {
-            core,
-            conf,
-            set,
-            heard,
-        }
-        .go_on(draft)
+        let copy = s.copy(self.core.alloc())?;
+        self.heard.push(copy)?;
+        self.go_on(draft)
     }
 
     // with the summaries of all members the plan is made; else more are waited for
@@ -187,24 +170,13 @@ impl ExchangeStates {
     }
 
     /// A request is kept.
-    pub fn request(self, r: Request) -> Result<ExchangeStates, NoMemory>
+    pub fn request(mut self, r: Request) -> Result<ExchangeStates, NoMemory>
         requires { IsKind (kind_of r) }
         ensures { IfOk result (λ s. (draft : DraftParts) →
             in_states s draft ≡ request (in_states self draft) (kind_of r)) }
     {
-        let ExchangeStates {
-            mut core,
-            conf,
-            set,
-            heard,
-        } = self;
-        core.keep(r.into_kind())?;
-        Ok(ExchangeStates {
-            core,
-            conf,
-            set,
-            heard,
-        })
+        self.core.keep(r.into_kind())?;
+        Ok(self)
     }
 
     pub fn name(&self) -> StateName

@@ -1,21 +1,23 @@
-ghost use Rattle.std.specs.Prelude.{◌≡◌, false, IfOk};
+ghost use Rattle.std.specs.Prelude.{◌≡◌, ℕ, false, IfOk};
 ghost use Rattle.cg_action.specs.Limits.{IsKind};
 ghost use Rattle.cg_report.specs.declared.line.StateName.TheVariants.{NonPrim as NonPrimName};
 ghost use Rattle.cg_wire.specs.Limits.{IsMsg};
-ghost use Rattle.cg_wire.specs.Reading.{message_in};
 ghost use Rattle.cg_client.specs.Requests.{request, settle};
 ghost use Rattle.cg_client.specs.Calls.{kind_of, IsLineGreen};
 ghost use Rattle.cg_client.specs.Whitening.{with_white};
 ghost use Rattle.cg_exchange.specs.States.{in_non_prim};
 ghost use Rattle.cg_exchange.specs.Steps.{turn_after, HasRecord};
-ghost use Rattle.cg_exchange.specs.Hearing.{non_prim_on_message, non_prim_on_read, non_prim_on};
+ghost use Rattle.cg_states.specs.ReplicaStep.{on_message};
+ghost use Rattle.cg_states.specs.Hearing.{hear_delivery};
+ghost use Rattle.cg_client.specs.Replica.{NonPrim as NonPrimState};
 
 use crate::{ExchangeStates, ExchangeStep};
 use cg_base::NoMemory;
 use cg_client::{Core, Draft, Request};
+use cg_encoded::DeliveredMsg;
 use cg_group::Delivery;
 use cg_report::StateName;
-use cg_wire::{Msg, read_message};
+use cg_wire::Msg;
 use std::marker::Model;
 
 /// A member of no primary component. Clauses see what it holds, and whether it is in a regular configuration.
@@ -59,16 +61,21 @@ impl NonPrim {
     }
 
     /// One delivery.
-    pub fn deliver(self, draft: &mut Draft, d: &Delivery) -> Result<ExchangeStep, NoMemory>
+    #[tactic(auto, unfolding(cg_states::specs::ReplicaStep::on_transitional, cg_states::specs::ReplicaStep::on_regular))]
+    pub fn deliver(
+        self,
+        draft: &mut Draft,
+        d: &Delivery<DeliveredMsg>,
+    ) -> Result<ExchangeStep, NoMemory>
         ensures turn { IfOk result (λ step. turn_after step draft.new ≡
-            non_prim_on (in_non_prim self draft.old) d.now) }
+            hear_delivery (in_non_prim self draft.old) d.now) }
         ensures record { IfOk result HasRecord }
     {
         match d {
-            Delivery::Message { bytes, .. } => {
-                let next = self.hear(draft, bytes.as_slice())?;
-                Ok(ExchangeStep::Non(next))
-            }
+            Delivery::Message { bytes, .. } => match bytes.message() {
+                Some(message) => self.hear(draft, message),
+                None => Ok(ExchangeStep::Non(self)),
+            },
             Delivery::Transitional { .. } => {
                 let NonPrim { core, .. } = self;
                 Ok(ExchangeStep::Non(NonPrim {
@@ -84,56 +91,45 @@ impl NonPrim {
         }
     }
 
-    fn hear(self, draft: &mut Draft, bytes: &[u8]) -> Result<NonPrim, NoMemory>
-        ensures { IfOk result (λ s. in_non_prim s draft.new ≡
-            non_prim_on_read (in_non_prim self draft.old) (message_in bytes.now)) }
+    #[tactic(auto, unfolding(cg_states::specs::ReplicaStep::on_message))]
+    fn hear(mut self, draft: &mut Draft, message: &Msg) -> Result<ExchangeStep, NoMemory>
+        requires { IsMsg message.now }
+        ensures turn { IfOk result (λ step. (from : ℕ) → turn_after step draft.new ≡
+            on_message (NonPrimState self.regular) from message.now (in_non_prim self draft.old)) }
+        ensures record { IfOk result HasRecord }
     {
-        match read_message(self.core.alloc(), bytes)? {
-            Some(message) => self.hear_message(draft, message),
-            None => Ok(self),
-        }
-    }
-
-    #[tactic(auto, unfolding(crate::specs::Hearing::non_prim_on_message))]
-    fn hear_message(self, draft: &mut Draft, message: Msg) -> Result<NonPrim, NoMemory>
-        requires { IsMsg message }
-        ensures { IfOk result (λ s. in_non_prim s draft.new ≡
-            non_prim_on_message (in_non_prim self draft.old) message) }
-    {
-        let NonPrim { mut core, regular } = self;
         match message {
             Msg::Action(a) => {
-                core.mark_red(draft, a)?;
-                Ok(NonPrim { core, regular })
+                let a = a.copy(self.core.alloc())?;
+                self.core.mark_red(draft, a)?;
+                Ok(ExchangeStep::Non(self))
             }
-            _ => Ok(NonPrim { core, regular }),
+            _ => Ok(ExchangeStep::Non(self)),
         }
     }
 
     /// A request is created in a regular configuration, else it is kept.
-    pub fn request(self, draft: &mut Draft, r: Request) -> Result<NonPrim, NoMemory>
+    pub fn request(mut self, draft: &mut Draft, r: Request) -> Result<NonPrim, NoMemory>
         requires { IsKind (kind_of r) }
         ensures { IfOk result (λ s. in_non_prim s draft.new ≡ request (in_non_prim self draft.old) (kind_of r)) }
     {
-        let NonPrim { mut core, regular } = self;
-        if !regular {
-            core.keep(r.into_kind())?;
-            return Ok(NonPrim { core, regular });
+        if !self.regular {
+            self.core.keep(r.into_kind())?;
+            return Ok(self);
         }
-        core.create(draft, r.into_kind())?;
-        Ok(NonPrim { core, regular })
+        self.core.create(draft, r.into_kind())?;
+        Ok(self)
     }
 
     /// The event ends: in a regular configuration the requests that are kept are created, in their order.
-    pub fn settle(self, draft: &mut Draft) -> Result<NonPrim, NoMemory>
+    pub fn settle(mut self, draft: &mut Draft) -> Result<NonPrim, NoMemory>
         ensures { IfOk result (λ s. in_non_prim s draft.new ≡ settle (in_non_prim self draft.old)) }
     {
-        let NonPrim { mut core, regular } = self;
-        if !regular {
-            return Ok(NonPrim { core, regular });
+        if !self.regular {
+            return Ok(self);
         }
-        core.create_kept(draft)?;
-        Ok(NonPrim { core, regular })
+        self.core.create_kept(draft)?;
+        Ok(self)
     }
 
     pub fn name(&self) -> StateName

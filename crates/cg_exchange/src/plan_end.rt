@@ -8,7 +8,7 @@ ghost use Rattle.cg_knowledge.specs.Verdict.{decides};
 ghost use Rattle.cg_knowledge.specs.Calls.{verdict_of};
 ghost use Rattle.cg_client.specs.Drafts.{turn_with};
 ghost use Rattle.cg_client.specs.Replica.{State};
-ghost use Rattle.cg_exchange.specs.PlanEnd.{with_name, usable_names, take_over, attempt, decide, end_plan};
+ghost use Rattle.cg_states.specs.PlanEnd.{with_name, usable_names, take_over, attempt, decide, end_plan};
 ghost use Rattle.cg_exchange.specs.Steps.{turn_after, HasRecord};
 
 use crate::{ExchangeStep, NonPrim};
@@ -35,7 +35,7 @@ fn push_name(core: &Core, list: &mut IdList, id: &ActionId) -> Result<(), NoMemo
     Ok(())
 }
 
-#[tactic(auto, unfolding(crate::specs::PlanEnd::usable_names))]
+#[tactic(auto, unfolding(cg_states::specs::PlanEnd::usable_names))]
 fn names_once(core: &Core, ids: &[ActionId]) -> Result<IdList, NoMemory>
     ensures { IfOk result (λ list. list ≡ usable_names core.now.queue ids.now) }
 {
@@ -70,7 +70,7 @@ fn usable_names(core: &Core, ids: &[ActionId]) -> Result<IdList, NoMemory>
     names_once(core, ids)
 }
 
-#[tactic(auto, unfolding(crate::specs::PlanEnd::take_over, cg_knowledge::specs::Calls::verdict_of))]
+#[tactic(auto, unfolding(cg_states::specs::PlanEnd::take_over, cg_knowledge::specs::Calls::verdict_of))]
 fn take_over(mut core: Core, summaries: &[Summary], verdict: Verdict) -> Result<Core, NoMemory>
     requires { verdict ≡ verdict_of summaries.now }
     ensures { IfOk result (λ after. after ≡ take_over core summaries.now) }
@@ -87,7 +87,7 @@ fn take_over(mut core: Core, summaries: &[Summary], verdict: Verdict) -> Result<
 }
 
 // the attempt is recorded and announced
-#[tactic(auto, unfolding(crate::specs::PlanEnd::attempt))]
+#[tactic(auto, unfolding(cg_states::specs::PlanEnd::attempt))]
 fn attempt(
     mut core: Core,
     draft: &mut Draft,
@@ -107,7 +107,7 @@ fn attempt(
 }
 
 // with a quorum an attempt begins; without one the replica is in no primary component
-#[tactic(auto, unfolding(crate::specs::PlanEnd::decide))]
+#[tactic(auto, unfolding(cg_states::specs::PlanEnd::decide))]
 fn decide_on(
     core: Core,
     draft: &mut Draft,
@@ -127,7 +127,7 @@ fn decide_on(
 }
 
 /// The plan has come to its end.
-#[tactic(auto, unfolding(crate::specs::PlanEnd::end_plan, cg_knowledge::specs::Calls::verdict_of))]
+#[tactic(auto, unfolding(cg_states::specs::PlanEnd::end_plan, cg_knowledge::specs::Calls::verdict_of))]
 pub(crate) fn end_plan(
     mut core: Core,
     draft: &mut Draft,

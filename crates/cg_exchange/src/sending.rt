@@ -6,7 +6,7 @@ ghost use Rattle.cg_plan.specs.Items.{red_item};
 ghost use Rattle.cg_plan.specs.declared.parts.Item.TheVariants.{Green, Red};
 ghost use Rattle.cg_client.specs.Drafts.{turn_with};
 ghost use Rattle.cg_client.specs.Replica.{State};
-ghost use Rattle.cg_exchange.specs.ExchangeActions.{message_of, messages_in_part, send_part};
+ghost use Rattle.cg_states.specs.ExchangeActions.{message_of, messages_in_part, send_part};
 
 use cg_base::{ActionId, NoMemory, ReplicaId};
 use cg_client::{Core, Draft};
@@ -91,7 +91,7 @@ fn push_part(core: &Core, draft: &mut Draft, part: &Part) -> Result<(), NoMemory
 }
 
 /// The part whose turn has come is sent, where there is one.
-#[tactic(auto, unfolding(crate::specs::ExchangeActions::send_part))]
+#[tactic(auto, unfolding(cg_states::specs::ExchangeActions::send_part))]
 pub(crate) fn send_turn(core: &Core, draft: &mut Draft, part: Option<Part>) -> Result<(), NoMemory>
     ensures { OnOk result ((state : State) →
         turn_with core.now state draft.new ≡ send_part (turn_with core.now state draft.old) part) }

@@ -18,7 +18,7 @@ use Rattle.cg_client.specs.Joined.{piece_count}
 use Rattle.cg_client.specs.Replica.{Replica}
 use Rattle.cg_client.specs.Turn.{Turn}
 use Rattle.cg_disk_records.specs.Crash.{EventEnd, FailOnce, StopWith, Strike, Runs, Crashes, end_event, new_disk}
-use Rattle.cg_model.specs.ReplicaStep.{Input, Asks, replica_step}
+use Rattle.cg_states.specs.ReplicaStep.{Input, Asks, replica_step}
 use Rattle.cg_schedule.specs.declared.event.Event.{Event}
 use Rattle.cg_schedule.specs.declared.event.Event.TheVariants.{Start, Split, Merge, Request, Weak, Dirty, Order, Recover, RecoverStopped, Downgrade, Show, ShowOrder, Gather, End, Receive, Deliver, Rounds, Stop, Fail, Join, Leave, Transfer}
 use Rattle.cg_model.specs.World.{NodeState, Up, Down, Node, TransferState, World, no_world, node_of, replica_of, has_begun, bring_up}

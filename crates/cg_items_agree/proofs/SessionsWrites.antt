@@ -15,7 +15,7 @@ use Rattle.cg_report.specs.declared.entry.Made.{Made}
 use Rattle.cg_client.specs.Replica.{State, RegPrim, TransPrim, ExchangeStates, ExchangeActions, Construct, No, Un, NonPrim, Left, Replica, created}
 use Rattle.cg_client.specs.Requests.{is_creating, create, request_in}
 use Rattle.cg_client.specs.Turn.{Turn, begin}
-use Rattle.cg_model.specs.ReplicaStep.{Asks as AsksOf, replica_step}
+use Rattle.cg_states.specs.ReplicaStep.{Asks as AsksOf, replica_step}
 use Rattle.cg_disk_records.specs.Crash.{Disk, EventEnd, Runs, Crashes, end_event}
 use Rattle.cg_schedule.specs.declared.event.Event.TheVariants.{Request}
 use Rattle.cg_model.specs.World.{NodeState, Up, Down, Node, World, no_world, node_of, replica_of, running, set_life}

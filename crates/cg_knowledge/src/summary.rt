@@ -1,5 +1,8 @@
-use cg_base::{Cut, IdSet, ReplicaId};
+ghost use Rattle.std.specs.Prelude.{◌≡◌, IfOk};
+
+use cg_base::{Cut, IdSet, NoMemory, ReplicaId};
 use cg_records::{Primary, Vulnerable, Yellow};
+use std::alloc::Global;
 
 /// What a replica tells the other members of a configuration as it enters an exchange.
 pub struct Summary {
@@ -33,5 +36,26 @@ impl Drop for Summary {
             red_cut: _,
             left: _,
         } = self;
+    }
+}
+
+impl Summary {
+    /// A copy of it.
+    pub fn copy(&self, alloc: Global) -> Result<Summary, NoMemory>
+        ensures { IfOk result (λ summary. summary ≡ self.now) }
+    {
+        let yellow = self.yellow.copy(alloc)?;
+        Ok(Summary {
+            id: self.id,
+            conf: self.conf,
+            prim: self.prim,
+            attempt_index: self.attempt_index,
+            vulnerable: self.vulnerable,
+            yellow,
+            green_count: self.green_count,
+            green_cut: self.green_cut,
+            red_cut: self.red_cut,
+            left: self.left,
+        })
     }
 }

@@ -27,14 +27,14 @@ use Rattle.cg_client.specs.Requests.{empty_buffer}
 use Rattle.cg_client.specs.Summary.{own_to_red, summary_of, enter_exchange}
 use Rattle.cg_client.specs.Install.{install}
 use Rattle.cg_client.specs.Marks.{mark_yellow}
-use Rattle.cg_prim.specs.TransPrim.{end_prim}
-use Rattle.cg_exchange.specs.PlanEnd.{take_over, attempt, decide, end_plan}
-use Rattle.cg_exchange.specs.ExchangeActions.{message_of, messages_in_part, mark_item, take_item, send_part, progress, go_on, is_next, exchange_actions_on_item}
-use Rattle.cg_exchange.specs.ExchangeStates.{is_usable, with_heard, exchange_states_on_summary}
-use Rattle.cg_construct.specs.Construct.{attempt_set, is_announced, construct_with, construct_on_cpc}
-use Rattle.cg_construct.specs.No.{no_record, no_with, no_on_cpc}
-use Rattle.cg_construct.specs.Un.{un_on_action}
-use Rattle.cg_model.specs.ReplicaStep.{on_message, on_transitional, on_regular, after_delivery, Input, Deliveries, Asks, replica_step}
+use Rattle.cg_states.specs.TransPrim.{end_prim}
+use Rattle.cg_states.specs.PlanEnd.{take_over, attempt, decide, end_plan}
+use Rattle.cg_states.specs.ExchangeActions.{message_of, messages_in_part, mark_item, take_item, send_part, progress, go_on, is_next, exchange_actions_on_item}
+use Rattle.cg_states.specs.ExchangeStates.{is_usable, with_heard, exchange_states_on_summary}
+use Rattle.cg_states.specs.Construct.{attempt_set, is_announced, construct_with, construct_on_cpc}
+use Rattle.cg_states.specs.No.{no_record, no_with, no_on_cpc}
+use Rattle.cg_states.specs.Un.{un_on_action}
+use Rattle.cg_states.specs.ReplicaStep.{on_message, on_transitional, on_regular, after_delivery, Input, Deliveries, Asks, replica_step}
 use Rattle.cg_laws.proofs.Calm.{CalmKind, Calm, CalmQueue, CalmHeld, TellsOfNone, CalmState, CalmMessage, CalmDelivery, CalmTurn, gone-none}
 use Rattle.cg_laws.proofs.CalmMarks.{found-calm, choice-calm, mark_red-calm, mark_yellow-calm, mark_green-calm, mark_green_at-calm, install-calm, own_to_red-calm, settle-calm, request-calm}
 

@@ -13,7 +13,7 @@ use Rattle.cg_group.specs.Events.{HandedOut, send_all, come_up, go_down}
 use Rattle.cg_base.specs.Lists.{Each}
 use Rattle.cg_group.specs.LookupLaws.{at-cond, put, put-own, eqb_comm}
 use Rattle.cg_client.specs.Replica.{Replica, fresh}
-use Rattle.cg_model.specs.ReplicaStep.{Input, Deliveries, replica_step}
+use Rattle.cg_states.specs.ReplicaStep.{Input, Deliveries, replica_step}
 use Rattle.cg_disk_records.specs.Crash.{Disk, new_disk, EventEnd, Runs, Crashes, end_event, at_rest, recovered, disk_recovered}
 use Rattle.cg_model.specs.World.{NodeState, Up, Down, Node, World, running, node_of, with_node}
 use Rattle.cg_model.specs.Show.{StepInProgress}

@@ -10,7 +10,7 @@ use Rattle.cg_client.specs.Turn.{Turn, begin}
 use Rattle.cg_client.specs.Marks.{is_unmade, place_green}
 use Rattle.cg_client.specs.Requests.{create}
 use Rattle.cg_client.specs.Summary.{own_to_red}
-use Rattle.cg_model.specs.ReplicaStep.{Input, Deliveries, Asks, after_delivery, replica_step}
+use Rattle.cg_states.specs.ReplicaStep.{Input, Deliveries, Asks, after_delivery, replica_step}
 use Rattle.cg_disk_records.specs.Holds.{Holds}
 use Rattle.cg_model.specs.Recorded.{AlwaysKept}
 use Rattle.cg_model.proofs.Rows.{IsRule, of-deliveries, of-buffer, of-empty_buffer}

@@ -7,7 +7,7 @@ use Rattle.cg_client.specs.Replica.{Held, Replica}
 use Rattle.cg_client.specs.Turn.{Turn}
 use Rattle.cg_disk_records.specs.Stored.{Stored, stored_of, whiten}
 use Rattle.cg_disk_records.specs.Following.{IsAhead}
-use Rattle.cg_model.specs.ReplicaStep.{Input, replica_step}
+use Rattle.cg_states.specs.ReplicaStep.{Input, replica_step}
 use Rattle.cg_disk_records.specs.Commit.{commits}
 use Rattle.cg_disk_records.specs.Checkpoint.{size_limit}
 use Rattle.cg_disk_records.specs.Crash.{Strike, Disk, new_disk, with_change, with_checkpoint, calls_of, checkpointed, is_committed, is_checkpointed, at_rest, crash_outcome, Runs, whitened, struck, commit_under, end_event}

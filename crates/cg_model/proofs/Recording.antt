@@ -16,7 +16,7 @@ use Rattle.cg_client.specs.Marks.{after_first}
 use Rattle.cg_client.specs.Requests.{next_action, create}
 use Rattle.cg_disk_records.specs.Stored.{Stored, stored_of, stable_of, whiten, recovery_turn}
 use Rattle.cg_disk_records.specs.Following.{fits_known, know, green_by_name, make, all_of, are_yellow, put_values, with_values, after_change, IsAhead, IsRecorded}
-use Rattle.cg_model.specs.ReplicaStep.{Input, Deliveries, Asks, after_delivery, replica_step}
+use Rattle.cg_states.specs.ReplicaStep.{Input, Deliveries, Asks, after_delivery, replica_step}
 use Rattle.cg_disk_records.specs.Commit.{same_values, commits}
 use Rattle.cg_disk_records.specs.Holds.{run_on, Holds}
 use Rattle.cg_model.specs.Recorded.{Named, AreBooked, AlwaysRecorded, AlwaysAhead}

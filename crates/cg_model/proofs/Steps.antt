@@ -9,7 +9,7 @@ use Rattle.cg_group.specs.declared.delivery.Delivery.TheVariants.{Message, Trans
 use Rattle.cg_client.specs.Replica.{State, RegPrim, TransPrim, ExchangeStates, ExchangeActions, Construct, No, Un, NonPrim, Left, Replica}
 use Rattle.cg_client.specs.Turn.{Turn, begin}
 use Rattle.cg_client.specs.Requests.{is_creating, next_action, create, create_kept, empty_buffer, buffer, settle, request_in}
-use Rattle.cg_model.specs.ReplicaStep.{Input, Deliveries, Asks, after_delivery, replica_step}
+use Rattle.cg_states.specs.ReplicaStep.{Input, Deliveries, Asks, after_delivery, replica_step}
 use Rattle.cg_disk_records.specs.Holds.{Holds}
 use Rattle.cg_model.specs.Recorded.{OfMessage, OfDelivery}
 use Rattle.cg_model.proofs.Rows.{of-deliveries, of-buffer, of-empty_buffer}

@@ -6,7 +6,7 @@ use Rattle.cg_client.specs.Replica.{Held, Replica}
 use Rattle.cg_client.specs.Turn.{Turn}
 use Rattle.cg_disk_records.specs.Stored.{Stored, stored_of, whiten}
 use Rattle.cg_disk_records.specs.Following.{IsAhead}
-use Rattle.cg_model.specs.ReplicaStep.{Input, replica_step}
+use Rattle.cg_states.specs.ReplicaStep.{Input, replica_step}
 use Rattle.cg_disk_records.specs.Crash.{Disk, new_disk, EventEnd, Runs, Crashes, end_event, at_rest, recovered, disk_recovered}
 use Rattle.cg_disk_records.specs.Holds.{Holds}
 use Rattle.cg_model.specs.Recorded.{AreBooked}

@@ -37,9 +37,6 @@ pub mod Touched
 pub mod Total
 pub mod Making
 pub mod Places
-pub mod ReplicaStep
-pub mod Hearing
-pub mod HearingLaws
 pub mod Recorded
 pub mod Following
 pub mod MadeLaws

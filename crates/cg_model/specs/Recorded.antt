@@ -12,7 +12,7 @@ use Rattle.cg_base.specs.Lists.{Each}
 use Rattle.cg_client.specs.Replica.{Held, Replica}
 use Rattle.cg_disk_records.specs.Stored.{Stored, stored_of, whiten, recovery_turn}
 use Rattle.cg_disk_records.specs.Following.{IsAhead, IsRecorded}
-use Rattle.cg_model.specs.ReplicaStep.{Input, Deliveries, replica_step}
+use Rattle.cg_states.specs.ReplicaStep.{Input, Deliveries, replica_step}
 use Rattle.cg_disk_records.specs.Commit.{commits}
 use Rattle.cg_disk_records.specs.Holds.{Holds}
 

@@ -17,7 +17,7 @@ use Rattle.cg_client.specs.Replica.{Held, State, Replica}
 use Rattle.cg_client.specs.Turn.{Turn, begin}
 use Rattle.cg_client.specs.Requests.{settle, request}
 use Rattle.cg_disk_records.specs.Stored.{stored_of, whiten}
-use Rattle.cg_model.specs.ReplicaStep.{after_delivery}
+use Rattle.cg_states.specs.ReplicaStep.{after_delivery}
 use Rattle.cg_disk_records.specs.Crash.{Disk, new_disk, at_rest, recovered, disk_recovered}
 use Rattle.cg_model.specs.World.{NodeState, Up, Down, World, node_of, replica_of, set_life, bring_up, bring_down}
 use Rattle.cg_model.specs.Step.{begin_replica, joiner_replica, without_snapshot}

@@ -9,7 +9,7 @@ use Rattle.cg_wire.specs.declared.message.Msg.{Msg}
 use Rattle.cg_group.specs.declared.delivery.Handed.{Handed}
 use Rattle.cg_group.specs.Events.{HandedOut, deliver, split, merge}
 use Rattle.cg_schedule.specs.declared.event.Event.{Event}
-use Rattle.cg_model.specs.ReplicaStep.{Deliveries, Asks}
+use Rattle.cg_states.specs.ReplicaStep.{Deliveries, Asks}
 use Rattle.cg_model.specs.Recorded.{AreBooked}
 use Rattle.cg_disk_records.specs.Holds.{run_on}
 use Rattle.cg_model.specs.World.{World, no_world, replica_of}

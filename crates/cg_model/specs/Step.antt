@@ -14,7 +14,7 @@ use Rattle.cg_client.specs.Replica.{Held, Replica, NonPrim, fresh}
 use Rattle.cg_client.specs.Joined.{joiner_content as joined_held, piece_count}
 use Rattle.cg_client.specs.Turn.{Turn}
 use Rattle.cg_client.specs.Queries.{weak_answer, dirty_answer}
-use Rattle.cg_model.specs.ReplicaStep.{Input, Deliveries, Asks, replica_step}
+use Rattle.cg_states.specs.ReplicaStep.{Input, Deliveries, Asks, replica_step}
 use Rattle.cg_disk_records.specs.Crash.{FailOnce, StopWith, Strike, EventEnd, Runs, Crashes, new_disk, end_event, at_rest, recovered, disk_recovered}
 use Rattle.cg_disk_records.specs.Recovery.{recovery_outcome, is_reached}
 use Rattle.cg_older.specs.OldDisk.{old_disk}

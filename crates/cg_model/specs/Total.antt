@@ -25,11 +25,11 @@ use Rattle.cg_client.specs.Replica.{Held, State, RegPrim, TransPrim, ExchangeSta
 use Rattle.cg_client.specs.Turn.{Turn, begin}
 use Rattle.cg_client.specs.Marks.{is_unmade, can_be_green, mark_green}
 use Rattle.cg_client.specs.Install.{valid_yellow, yellow_green, install}
-use Rattle.cg_exchange.specs.ExchangeActions.{message_of, progress, is_next, take_item}
-use Rattle.cg_exchange.specs.ExchangeStates.{is_usable}
-use Rattle.cg_exchange.specs.PlanEnd.{usable_names}
-use Rattle.cg_construct.specs.Construct.{attempt_set, is_announced}
-use Rattle.cg_model.specs.ReplicaStep.{after_delivery as take_one}
+use Rattle.cg_states.specs.ExchangeActions.{message_of, progress, is_next, take_item}
+use Rattle.cg_states.specs.ExchangeStates.{is_usable}
+use Rattle.cg_states.specs.PlanEnd.{usable_names}
+use Rattle.cg_states.specs.Construct.{attempt_set, is_announced}
+use Rattle.cg_states.specs.ReplicaStep.{after_delivery as take_one}
 use Rattle.cg_schedule.specs.declared.event.Event.{Event}
 use Rattle.cg_model.specs.World.{World, replica_of}
 use Rattle.cg_model.specs.Admission.{first_refusal}

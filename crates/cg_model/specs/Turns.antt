@@ -6,7 +6,7 @@ use Rattle.cg_wire.specs.declared.message.Msg.{Msg}
 use Rattle.cg_group.specs.Events.{HandedOut, deliver, split, merge}
 use Rattle.cg_client.specs.Replica.{Replica}
 use Rattle.cg_client.specs.Turn.{Turn}
-use Rattle.cg_model.specs.ReplicaStep.{Input, Deliveries, Asks, replica_step}
+use Rattle.cg_states.specs.ReplicaStep.{Input, Deliveries, Asks, replica_step}
 use Rattle.cg_disk_records.specs.Crash.{Strike, Disk, EventEnd, Runs, Crashes, is_committed, end_event}
 use Rattle.cg_schedule.specs.declared.event.Event.{Event}
 use Rattle.cg_schedule.specs.declared.event.Event.TheVariants.{Split, Merge, Request, Deliver, Join, Leave}

@@ -1,22 +1,23 @@
-ghost use Rattle.std.specs.Prelude.{◌≡◌, IsTrue, IsOk, IfOk};
+ghost use Rattle.std.specs.Prelude.{◌≡◌, ℕ, IsTrue, IsOk, IfOk};
 ghost use Rattle.cg_action.specs.Limits.{IsKind};
 ghost use Rattle.cg_report.specs.declared.line.StateName.TheVariants.{RegPrim as RegPrimName};
 ghost use Rattle.cg_wire.specs.Limits.{IsMsg};
-ghost use Rattle.cg_wire.specs.Reading.{message_in};
 ghost use Rattle.cg_client.specs.Replica.{RegPrim as RegPrimState, State};
 ghost use Rattle.cg_client.specs.Drafts.{turn_with};
 ghost use Rattle.cg_client.specs.Requests.{request, settle};
 ghost use Rattle.cg_client.specs.Calls.{kind_of, IsLineGreen};
 ghost use Rattle.cg_client.specs.Whitening.{with_white};
-ghost use Rattle.cg_prim.specs.Hearing.{reg_prim_on_message, reg_prim_on_read, reg_prim_on};
+ghost use Rattle.cg_states.specs.ReplicaStep.{on_message};
+ghost use Rattle.cg_states.specs.Hearing.{hear_delivery};
 ghost use Rattle.cg_prim.specs.Steps.{turn_after, is_transitional};
 
 use crate::{PrimStep, TransPrim};
 use cg_base::NoMemory;
 use cg_client::{Core, Draft, Installed, Request};
+use cg_encoded::DeliveredMsg;
 use cg_group::Delivery;
 use cg_report::StateName;
-use cg_wire::{Msg, read_message};
+use cg_wire::Msg;
 use std::marker::Model;
 
 /// A member of a primary component in its regular configuration. Clauses see what it holds.
@@ -44,16 +45,21 @@ impl RegPrim {
     }
 
     /// One delivery. A transitional configuration takes no memory.
-    pub fn deliver(self, draft: &mut Draft, d: &Delivery) -> Result<PrimStep, NoMemory>
+    #[tactic(auto, unfolding(cg_states::specs::ReplicaStep::on_transitional, cg_states::specs::ReplicaStep::on_regular))]
+    pub fn deliver(
+        self,
+        draft: &mut Draft,
+        d: &Delivery<DeliveredMsg>,
+    ) -> Result<PrimStep, NoMemory>
         ensures turn { IfOk result (λ step. turn_after step draft.new ≡
-            reg_prim_on (turn_with self RegPrimState draft.old) d.now) }
+            hear_delivery (turn_with self RegPrimState draft.old) d.now) }
         ensures memory { IsTrue (is_transitional d.now) → IsOk result }
     {
         match d {
-            Delivery::Message { bytes, .. } => {
-                let next = self.hear(draft, bytes.as_slice())?;
-                Ok(PrimStep::Reg(next))
-            }
+            Delivery::Message { bytes, .. } => match bytes.message() {
+                Some(message) => self.hear(draft, message),
+                None => Ok(PrimStep::Reg(self)),
+            },
             Delivery::Transitional { .. } => {
                 let RegPrim { core } = self;
                 Ok(PrimStep::Trans(TransPrim::behind(core)))
@@ -62,51 +68,39 @@ impl RegPrim {
         }
     }
 
-    fn hear(self, draft: &mut Draft, bytes: &[u8]) -> Result<RegPrim, NoMemory>
-        ensures { IfOk result (λ s. turn_with s RegPrimState draft.new ≡
-            reg_prim_on_read (turn_with self RegPrimState draft.old) (message_in bytes.now)) }
+    #[tactic(auto, unfolding(cg_states::specs::ReplicaStep::on_message))]
+    fn hear(mut self, draft: &mut Draft, message: &Msg) -> Result<PrimStep, NoMemory>
+        requires { IsMsg message.now }
+        ensures { IfOk result (λ step. (from : ℕ) → turn_after step draft.new ≡
+            on_message RegPrimState from message.now (turn_with self RegPrimState draft.old)) }
     {
-        match read_message(self.core.alloc(), bytes)? {
-            Some(message) => self.hear_message(draft, message),
-            None => Ok(self),
-        }
-    }
-
-    #[tactic(auto, unfolding(crate::specs::Hearing::reg_prim_on_message))]
-    fn hear_message(self, draft: &mut Draft, message: Msg) -> Result<RegPrim, NoMemory>
-        requires { IsMsg message }
-        ensures { IfOk result (λ s. turn_with s RegPrimState draft.new ≡
-            reg_prim_on_message (turn_with self RegPrimState draft.old) message) }
-    {
-        let RegPrim { mut core } = self;
         match message {
             Msg::Action(a) => {
-                core.mark_green(draft, a)?;
-                Ok(RegPrim { core })
+                let a = a.copy(self.core.alloc())?;
+                self.core.mark_green(draft, a)?;
+                Ok(PrimStep::Reg(self))
             }
-            _ => Ok(RegPrim { core }),
+            _ => Ok(PrimStep::Reg(self)),
         }
     }
 
     /// A request is created.
-    pub fn request(self, draft: &mut Draft, r: Request) -> Result<RegPrim, NoMemory>
+    pub fn request(mut self, draft: &mut Draft, r: Request) -> Result<RegPrim, NoMemory>
         requires { IsKind (kind_of r) }
         ensures { IfOk result (λ s. turn_with s RegPrimState draft.new ≡
             request (turn_with self RegPrimState draft.old) (kind_of r)) }
     {
-        let RegPrim { mut core } = self;
-        core.create(draft, r.into_kind())?;
-        Ok(RegPrim { core })
+        self.core.create(draft, r.into_kind())?;
+        Ok(self)
     }
 
     /// The event ends: the requests that are kept are created, in their order.
-    pub fn settle(self, draft: &mut Draft) -> Result<RegPrim, NoMemory>
+    pub fn settle(mut self, draft: &mut Draft) -> Result<RegPrim, NoMemory>
         ensures { IfOk result (λ s. turn_with s RegPrimState draft.new ≡
             settle (turn_with self RegPrimState draft.old)) }
     {
-        let RegPrim { mut core } = self;
-        core.create_kept(draft)?;
-        Ok(RegPrim { core })
+        self.core.create_kept(draft)?;
+        Ok(self)
     }
 
     pub fn name(&self) -> StateName

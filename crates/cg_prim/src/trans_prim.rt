@@ -1,9 +1,8 @@
-ghost use Rattle.std.specs.Prelude.{◌≡◌, IfOk};
+ghost use Rattle.std.specs.Prelude.{◌≡◌, ℕ, IfOk};
 ghost use Rattle.cg_action.specs.Limits.{IsKind};
 ghost use Rattle.cg_action.specs.ActionLimits.{IsAction};
 ghost use Rattle.cg_report.specs.declared.line.StateName.TheVariants.{TransPrim as TransPrimName};
 ghost use Rattle.cg_wire.specs.Limits.{IsMsg};
-ghost use Rattle.cg_wire.specs.Reading.{message_in};
 ghost use Rattle.cg_client.specs.Replica.{TransPrim as TransPrimState, State};
 ghost use Rattle.cg_client.specs.declared.parts.DraftParts.{DraftParts};
 ghost use Rattle.cg_client.specs.Drafts.{turn_with};
@@ -12,15 +11,17 @@ ghost use Rattle.cg_client.specs.Calls.{kind_of, IsLineGreen};
 ghost use Rattle.cg_client.specs.Whitening.{with_white};
 ghost use Rattle.cg_client.specs.Marks.{mark_yellow};
 ghost use Rattle.cg_prim.specs.Steps.{turn_after};
-ghost use Rattle.cg_prim.specs.Hearing.{trans_prim_on_message, trans_prim_on_read, trans_prim_on};
+ghost use Rattle.cg_states.specs.ReplicaStep.{on_message};
+ghost use Rattle.cg_states.specs.Hearing.{hear_delivery};
 
 use crate::PrimStep;
 use cg_action::Action;
 use cg_base::NoMemory;
 use cg_client::{Core, Draft, Installed, Request};
+use cg_encoded::DeliveredMsg;
 use cg_group::Delivery;
 use cg_report::StateName;
-use cg_wire::{Msg, read_message};
+use cg_wire::Msg;
 use std::marker::Model;
 
 /// A member of a primary component in its transitional configuration. Clauses see what it holds.
@@ -58,15 +59,20 @@ impl TransPrim {
     }
 
     /// One delivery.
-    pub fn deliver(self, draft: &mut Draft, d: &Delivery) -> Result<PrimStep, NoMemory>
+    #[tactic(auto, unfolding(cg_states::specs::ReplicaStep::on_transitional, cg_states::specs::ReplicaStep::on_regular))]
+    pub fn deliver(
+        self,
+        draft: &mut Draft,
+        d: &Delivery<DeliveredMsg>,
+    ) -> Result<PrimStep, NoMemory>
         ensures { IfOk result (λ step. turn_after step draft.new ≡
-            trans_prim_on (turn_with self TransPrimState draft.old) d.now) }
+            hear_delivery (turn_with self TransPrimState draft.old) d.now) }
     {
         match d {
-            Delivery::Message { bytes, .. } => {
-                let next = self.hear(draft, bytes.as_slice())?;
-                Ok(PrimStep::Trans(next))
-            }
+            Delivery::Message { bytes, .. } => match bytes.message() {
+                Some(message) => self.hear(draft, message),
+                None => Ok(PrimStep::Trans(self)),
+            },
             Delivery::Transitional { .. } => Ok(PrimStep::Trans(self)),
             Delivery::Regular { conf, set } => {
                 let TransPrim { mut core } = self;
@@ -80,41 +86,30 @@ impl TransPrim {
         }
     }
 
-    fn hear(self, draft: &mut Draft, bytes: &[u8]) -> Result<TransPrim, NoMemory>
-        ensures { IfOk result (λ s. turn_with s TransPrimState draft.new ≡
-            trans_prim_on_read (turn_with self TransPrimState draft.old) (message_in bytes.now)) }
+    #[tactic(auto, unfolding(cg_states::specs::ReplicaStep::on_message))]
+    fn hear(mut self, draft: &mut Draft, message: &Msg) -> Result<PrimStep, NoMemory>
+        requires { IsMsg message.now }
+        ensures { IfOk result (λ step. (from : ℕ) → turn_after step draft.new ≡
+            on_message TransPrimState from message.now (turn_with self TransPrimState draft.old)) }
     {
-        match read_message(self.core.alloc(), bytes)? {
-            Some(message) => self.hear_message(draft, message),
-            None => Ok(self),
-        }
-    }
-
-    #[tactic(auto, unfolding(crate::specs::Hearing::trans_prim_on_message))]
-    fn hear_message(self, draft: &mut Draft, message: Msg) -> Result<TransPrim, NoMemory>
-        requires { IsMsg message }
-        ensures { IfOk result (λ s. turn_with s TransPrimState draft.new ≡
-            trans_prim_on_message (turn_with self TransPrimState draft.old) message) }
-    {
-        let TransPrim { mut core } = self;
         match message {
             Msg::Action(a) => {
-                core.mark_yellow(draft, a)?;
-                Ok(TransPrim { core })
+                let a = a.copy(self.core.alloc())?;
+                self.core.mark_yellow(draft, a)?;
+                Ok(PrimStep::Trans(self))
             }
-            _ => Ok(TransPrim { core }),
+            _ => Ok(PrimStep::Trans(self)),
         }
     }
 
     /// A request is kept.
-    pub fn request(self, r: Request) -> Result<TransPrim, NoMemory>
+    pub fn request(mut self, r: Request) -> Result<TransPrim, NoMemory>
         requires { IsKind (kind_of r) }
         ensures { IfOk result (λ s. (draft : DraftParts) →
             turn_with s TransPrimState draft ≡ request (turn_with self TransPrimState draft) (kind_of r)) }
     {
-        let TransPrim { mut core } = self;
-        core.keep(r.into_kind())?;
-        Ok(TransPrim { core })
+        self.core.keep(r.into_kind())?;
+        Ok(self)
     }
 
     pub fn name(&self) -> StateName

@@ -39,11 +39,8 @@ use Rattle.cg_client.specs.Marks.{is_unmade, mark_red, mark_yellow, can_be_green
 use Rattle.cg_client.specs.Queries.{view_of}
 use Rattle.cg_client.specs.Requests.{create, create_kept}
 use Rattle.cg_client.specs.Summary.{summary_of, own_to_red, enter_exchange}
-use Rattle.cg_prim.specs.Hearing.{reg_prim_on_message, trans_prim_on_message}
-use Rattle.cg_exchange.specs.ExchangeActions.{send_part, go_on}
-use Rattle.cg_exchange.specs.PlanEnd.{usable_names, take_over, attempt, decide, end_plan}
-use Rattle.cg_exchange.specs.Hearing.{exchange_states_on_message, exchange_actions_on_message, non_prim_on_message}
-use Rattle.cg_construct.specs.Hearing.{un_on_message, construct_on_message, no_on_message}
+use Rattle.cg_states.specs.ExchangeActions.{send_part, go_on}
+use Rattle.cg_states.specs.PlanEnd.{usable_names, take_over, attempt, decide, end_plan}
 use Rattle.cg_disk_records.specs.Change.{spelled_change}
 use Rattle.cg_disk_records.specs.Checkpoint.{spelled_server, spelled_entry, spelled_reached, spelled_kept, spelled_parts, spelled_checkpoint}
 use Rattle.cg_disk_records.specs.Parts.{do_agree, change_in, checkpoint_in}
@@ -55,7 +52,7 @@ use Rattle.cg_disk_records.specs.Crash.{with_change, with_checkpoint, crash_outc
 use Rattle.cg_disk_records.specs.Recovery.{recovery_outcome}
 use Rattle.cg_older.specs.Bytes.{spelled_old_prim, spelled_old_stable, spelled_old_server, spelled_old_reached, spelled_old_parts, spelled_old_checkpoint}
 use Rattle.cg_older.specs.Older.{has_weights}
-use Rattle.cg_model.specs.ReplicaStep.{on_message, on_transitional, on_regular, after_delivery, replica_step}
+use Rattle.cg_states.specs.ReplicaStep.{on_message, on_transitional, on_regular, after_delivery, replica_step}
 use Rattle.cg_model.specs.Admission.{first_refusal}
 use Rattle.cg_model.specs.Show.{ended}
 use Rattle.cg_model.specs.Step.{hand, happens, world_step}
@@ -172,18 +169,9 @@ unfolding install is_unmade mark_red mark_yellow can_be_green place_green mark_g
     summary_of own_to_red enter_exchange
 client_computes = tt
 
-unfoldable pub prim_computes : ⊤
-unfolding reg_prim_on_message trans_prim_on_message
-prim_computes = tt
-
 unfoldable pub exchange_computes : ⊤
-unfolding send_part go_on exchange_actions_on_message exchange_states_on_message non_prim_on_message usable_names
-    take_over attempt decide end_plan
+unfolding send_part go_on usable_names take_over attempt decide end_plan
 exchange_computes = tt
-
-unfoldable pub construct_computes : ⊤
-unfolding construct_on_message no_on_message un_on_message
-construct_computes = tt
 
 unfoldable pub stored_computes : ⊤
 unfolding spelled_change after_change spelled_server spelled_entry spelled_reached spelled_kept spelled_parts
@@ -213,6 +201,6 @@ run_computes = tt
 unfoldable pub cases_compute : ⊤
 unfolding std_computes json_computes base_computes text_computes codec_computes action_computes db_computes vote_computes
     queue_computes records_computes knowledge_computes plan_computes wire_computes group_computes schedule_computes
-    client_computes prim_computes exchange_computes construct_computes stored_computes older_computes step_computes
+    client_computes exchange_computes stored_computes older_computes step_computes
     agree_computes follow_computes session_computes relaxed_computes compare_computes run_computes
 cases_compute = tt

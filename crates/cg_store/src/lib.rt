@@ -46,7 +46,6 @@ mod rebuild;
 mod records;
 mod replay;
 mod resuming;
-mod sealing;
 mod settling;
 mod store;
 mod values;

@@ -15,7 +15,6 @@ use crate::finding::{OpenedSide, other};
 use crate::older::find_on;
 use crate::pending_record::{PendingRecord, prepare};
 use crate::records::checkpoint_record;
-use crate::sealing::seal_all;
 use crate::settling::{Settled, settle};
 use crate::{CommitErr, OpenErr, Outputs};
 use cg_action::{Action, ActionList, Limited};
@@ -23,7 +22,6 @@ use cg_base::{NUMBER_LIMIT, NoMemory, ReplicaId, Row};
 use cg_client::{Core, Draft, DraftParts};
 use cg_disk::{Disk, ModelDisk, Side};
 use cg_disk_records::{CHECKPOINT_BYTES, changes_are_exact, checkpoints_are_exact};
-use cg_encoded::EncodedMsg;
 use cg_journal::{
     AppendErr, FormatErr, Journal, JournalOpen, MigrateErr, MixedJournal, SideRecords, make_old,
 };
@@ -184,7 +182,7 @@ impl<D: Disk> Store<D> {
         changes_are_exact();
         let alloc = core.alloc();
         match self.ready(alloc, core, &draft) {
-            Ok((encoded, due)) => self.finish(alloc, draft.into_parts(), encoded, due),
+            Ok(due) => self.finish(alloc, draft.into_parts(), due),
             Err(_) => {
                 draft.abandon();
                 Err(CommitErr::NoMemory(self.into_disk()))
@@ -198,28 +196,24 @@ impl<D: Disk> Store<D> {
         alloc: Global,
         core: &Core,
         draft: &Draft,
-    ) -> Result<(Row<EncodedMsg>, Option<PendingRecord>), NoMemory>
-        ensures encoded { IfOk result (λ r. r.0 ≡ draft.now.sent) }
-        ensures short { IfOk result (λ r. IfSome r.1 (λ x. length x.body < LIST_LIMIT)) }
-        ensures due { IfOk result (λ r. (u : OnDisk) (state : State) →
+    ) -> Result<Option<PendingRecord>, NoMemory>
+        ensures short { IfOk result (λ due. IfSome due (λ x. length x.body < LIST_LIMIT)) }
+        ensures due { IfOk result (λ due. (u : OnDisk) (state : State) →
             Stands self.now.id (D.view self.now.disk).reads u →
-            IsReady u.content self.now.unwritten core.now draft.now state r.1) }
+            IsReady u.content self.now.unwritten core.now draft.now state due) }
     {
-        let encoded = seal_all(alloc, draft.sent().as_slice())?;
         let unwritten = self.unwritten.as_slice();
         let due = prepare(alloc, &self.values, unwritten, core, draft)?;
-        Ok((encoded, due))
+        Ok(due)
     }
 
     fn finish(
         self,
         alloc: Global,
         parts: DraftParts,
-        encoded: Row<EncodedMsg>,
         due: Option<PendingRecord>,
     ) -> Result<(Store<D>, Outputs), CommitErr<D>>
         requires calls { (D.view self.disk).time + 4 ≤ COUNT_LIMIT }
-        requires encoded { encoded ≡ parts.sent }
         requires known { Each IsAction parts.known }
         requires short { IfSome due (λ x. length x.body < LIST_LIMIT) }
         requires leads { (u : OnDisk) → Stands self.id (D.view self.disk).reads u → IfSome due (IsLed u) }
@@ -233,12 +227,13 @@ impl<D: Disk> Store<D> {
             known,
             green,
             made,
+            sent,
             replies,
             ..
         } = parts;
         let outputs = Outputs {
             made,
-            sent: encoded,
+            sent,
             replies,
             green,
             written: due.is_some(),

@@ -13,7 +13,7 @@ use Rattle.cg_disk_records.specs.Commit.{commits}
 use Rattle.cg_disk_records.specs.Crash.{Disk, EventEnd, Runs, end_event}
 use Rattle.cg_disk_records.specs.Always.{AlwaysCounts}
 use Rattle.cg_model.specs.Recorded.{AlwaysKept, AreBooked}
-use Rattle.cg_model.specs.ReplicaStep.{Input, replica_step}
+use Rattle.cg_states.specs.ReplicaStep.{Input, replica_step}
 use Rattle.cg_store.specs.Calls.{Commits, EndsLong, outputs_of}
 use Rattle.cg_store.specs.StoreState.{StoreState}
 use Rattle.cg_store.specs.Stands.{OnDisk, Stands, disk_of, committed, checkpointed}

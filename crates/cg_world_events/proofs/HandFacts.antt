@@ -9,7 +9,7 @@ use Rattle.cg_group.specs.Events.{send_all, go_down}
 use Rattle.cg_client.specs.Replica.{Replica}
 use Rattle.cg_client.specs.Turn.{Turn}
 use Rattle.cg_model.specs.Recorded.{AreBooked}
-use Rattle.cg_model.specs.ReplicaStep.{Input, replica_step}
+use Rattle.cg_states.specs.ReplicaStep.{Input, replica_step}
 use Rattle.cg_disk_records.specs.Crash.{EventEnd, Runs, Crashes, end_event}
 use Rattle.cg_model.specs.World.{NodeState, Up, Down, Node, World, running, node_of, replica_of, with_node, set_life}
 use Rattle.cg_model.specs.Show.{StepInProgress, news_of, tell}

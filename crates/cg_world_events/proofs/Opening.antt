@@ -6,7 +6,7 @@ use Rattle.cg_wire.specs.Bytes.{spelled_msg}
 use Rattle.cg_wire.specs.Limits.{IsMsg}
 use Rattle.cg_wire.specs.Reading.{message_in}
 use Rattle.cg_encoded.specs.Encoded.{opened, AreSaid}
-use Rattle.cg_model.specs.ReplicaStep.{Deliveries}
+use Rattle.cg_states.specs.ReplicaStep.{Deliveries}
 use Rattle.cg_engine.specs.InputLaws.{opened-read}
 use Rattle.cg_engine.specs.Inputs.{read_all, input_of}
 use Rattle.cg_engine.specs.declared.input.Input.TheVariants.{Deliver}

@@ -21,7 +21,7 @@ use Rattle.cg_disk_records.specs.Recovery.{recovery_outcome, is_reached}
 use Rattle.cg_older.specs.Older.{has_weights}
 use Rattle.cg_older.specs.OldDisk.{old_disk}
 use Rattle.cg_model.specs.Recorded.{AreBooked}
-use Rattle.cg_model.specs.ReplicaStep.{Input, replica_step}
+use Rattle.cg_states.specs.ReplicaStep.{Input, replica_step}
 use Rattle.cg_model.specs.World.{NodeState, Up, Down, Node, running, is_left_state}
 use Rattle.cg_model.specs.Show.{EventEffects, news_of, news_of_recovery, up_line}
 use Rattle.cg_model.specs.Step.{shown_of}

@@ -5,7 +5,7 @@ ghost use Rattle.cg_action.specs.declared.action.Action.{Action as ActionView};
 ghost use Rattle.cg_action.specs.Limits.{IsKind};
 ghost use Rattle.cg_client.specs.Calls.{kind_of};
 ghost use Rattle.cg_model.specs.Recorded.{AreBooked};
-ghost use Rattle.cg_model.specs.ReplicaStep.{Deliveries, Asks};
+ghost use Rattle.cg_states.specs.ReplicaStep.{Deliveries, Asks};
 ghost use Rattle.cg_model.specs.World.{replica_of};
 ghost use Rattle.cg_model.specs.Step.{quietly, hand, hand_over};
 ghost use Rattle.cg_model.specs.Standing.{IsHandedBooked, AreBookedInTurn};

@@ -7,7 +7,7 @@ ghost use Rattle.cg_base.specs.declared.action_id.ActionId.{ActionId};
 ghost use Rattle.cg_client.specs.Calls.{kind_of};
 ghost use Rattle.cg_engine.specs.Inputs.{input_of, HasLimits};
 ghost use Rattle.cg_model.specs.Recorded.{AreBooked};
-ghost use Rattle.cg_model.specs.ReplicaStep.{Deliveries, Asks};
+ghost use Rattle.cg_states.specs.ReplicaStep.{Deliveries, Asks};
 ghost use Rattle.cg_model.specs.World.{Up};
 ghost use Rattle.cg_world_events.specs.Calls.{begun, taken, IsBookedFor};
 ghost use Rattle.cg_store.specs.Formats.{Standing};

@@ -1,6 +1,6 @@
 use Rattle.std.proofs.Common.{refl, ◌∙◌}
 use Rattle.cg_disk.specs.Model.{view_of}
-use Rattle.cg_model.specs.ReplicaStep.{replica_step}
+use Rattle.cg_states.specs.ReplicaStep.{replica_step}
 use Rattle.cg_engine.proofs.Values.{same_count}
 use Rattle.cg_engine.proofs.Handling.{follows_at}
 use Rattle.cg_engine.proofs.Defining.{ends_as_defined}

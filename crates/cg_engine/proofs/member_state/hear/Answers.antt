@@ -1,7 +1,7 @@
 use Rattle.std.proofs.Common.{sym, ap, ◌∙◌}
-use Rattle.cg_model.specs.Hearing.{hear_delivery}
-use Rattle.cg_model.specs.HearingLaws.{left_hears}
+use Rattle.cg_states.specs.Hearing.{hear_delivery}
 use Rattle.cg_engine.specs.Seen.{seen, turn_of}
+use Rattle.cg_engine.proofs.Leaving.{left_hears}
 use Rattle.cg_engine.proofs.member_state.hear.Goals as goal
 
 pub returns-in-Left : goal.returns-in-Left

@@ -1,8 +1,7 @@
-use Rattle.std.proofs.Common.{◌≡◌, IfOk, sym, ap, ◌∙◌, subst}
+use Rattle.std.proofs.Common.{◌≡◌, IfOk, sym, ap, subst}
 use Rattle.cg_client.specs.Turn.{Turn}
 use Rattle.cg_exchange.specs.Steps.{turn_after}
-use Rattle.cg_model.specs.Hearing.{hear_delivery}
-use Rattle.cg_model.specs.HearingLaws.{non_prim_hears, exchange_states_hears, exchange_actions_hears}
+use Rattle.cg_states.specs.Hearing.{hear_delivery}
 use Rattle.cg_engine.specs.Seen.{outside_seen, turn_of}
 use Rattle.cg_engine.proofs.out_of_prim.hear.Goals as goal
 
@@ -10,16 +9,16 @@ pub returns-in-Non-clause-turn : goal.returns-in-Non-clause-turn
 returns-in-Non-clause-turn c =
     let d = c.args.draft.now in
     let e = c.args.d.now in
-    subst (λ (t : Turn). IfOk c.deliver.result (λ step. turn_after step c.deliver.new.draft ≡ t)) (sym (non_prim_hears c.in-Non.s.held c.in-Non.s.regular d e) ∙ ap (λ x. hear_delivery (turn_of (outside_seen x) d) e) (sym c.in-Non.is)) c.deliver.ensures.turn
+    subst (λ (t : Turn). IfOk c.deliver.result (λ step. turn_after step c.deliver.new.draft ≡ t)) (ap (λ x. hear_delivery (turn_of (outside_seen x) d) e) (sym c.in-Non.is)) c.deliver.ensures.turn
 
 pub returns-in-States-clause-turn : goal.returns-in-States-clause-turn
 returns-in-States-clause-turn c =
     let d = c.args.draft.now in
     let e = c.args.d.now in
-    subst (λ (t : Turn). IfOk c.deliver-in-States.result (λ step. turn_after step c.deliver-in-States.new.draft ≡ t)) (sym (exchange_states_hears c.in-States.s.held c.in-States.s.conf c.in-States.s.set c.in-States.s.heard d e) ∙ ap (λ x. hear_delivery (turn_of (outside_seen x) d) e) (sym c.in-States.is)) c.deliver-in-States.ensures.turn
+    subst (λ (t : Turn). IfOk c.deliver-in-States.result (λ step. turn_after step c.deliver-in-States.new.draft ≡ t)) (ap (λ x. hear_delivery (turn_of (outside_seen x) d) e) (sym c.in-States.is)) c.deliver-in-States.ensures.turn
 
 pub returns-in-Actions-clause-turn : goal.returns-in-Actions-clause-turn
 returns-in-Actions-clause-turn c =
     let d = c.args.draft.now in
     let e = c.args.d.now in
-    subst (λ (t : Turn). IfOk c.deliver-in-Actions.result (λ step. turn_after step c.deliver-in-Actions.new.draft ≡ t)) (sym (exchange_actions_hears c.in-Actions.s.held c.in-Actions.s.conf c.in-Actions.s.summaries c.in-Actions.s.accepted d e) ∙ ap (λ x. hear_delivery (turn_of (outside_seen x) d) e) (sym c.in-Actions.is)) c.deliver-in-Actions.ensures.turn
+    subst (λ (t : Turn). IfOk c.deliver-in-Actions.result (λ step. turn_after step c.deliver-in-Actions.new.draft ≡ t)) (ap (λ x. hear_delivery (turn_of (outside_seen x) d) e) (sym c.in-Actions.is)) c.deliver-in-Actions.ensures.turn

@@ -2,7 +2,7 @@ use Rattle.std.proofs.Common.{◌≡◌, IfOk, ℕ, ap, subst}
 use Rattle.cg_plan.specs.Progress.{PlanProgress}
 use Rattle.cg_client.specs.Drafts.{turn_with}
 use Rattle.cg_client.specs.Replica.{State}
-use Rattle.cg_exchange.specs.ExchangeActions.{go_on}
+use Rattle.cg_states.specs.ExchangeActions.{go_on}
 use Rattle.cg_exchange.specs.Steps.{turn_after}
 use Rattle.cg_exchange.proofs.exchange_states.begin_plan.Goals as goal
 

@@ -1,5 +1,5 @@
 use Rattle.std.proofs.Common.{◌≡◌, fold, take, []}
-use Rattle.cg_exchange.specs.PlanEnd.{with_name}
+use Rattle.cg_states.specs.PlanEnd.{with_name}
 use Rattle.cg_exchange.proofs.plan_end.names_once.Given as goal
 
 abbrev pub invariant-loop-id : goal.invariant-loop-id

@@ -5,7 +5,7 @@ use Rattle.cg_base.specs.Lists.{above_up_to}
 use Rattle.cg_plan.specs.declared.parts.Item.{Item}
 use Rattle.cg_plan.specs.Items.{red_item}
 use Rattle.cg_wire.specs.declared.message.Msg.{Msg}
-use Rattle.cg_exchange.specs.ExchangeActions.{message_of}
+use Rattle.cg_states.specs.ExchangeActions.{message_of}
 use Rattle.cg_exchange.proofs.ItemSteps.{items-step, rest-step}
 use Rattle.cg_exchange.proofs.sending.push_reds.Goals as goal
 

@@ -3,7 +3,7 @@ use Rattle.std.specs.Prelude.{flat_map, map}
 use Rattle.std.specs.Option.{option_to_list}
 use Rattle.cg_base.specs.Lists.{above_up_to}
 use Rattle.cg_plan.specs.Items.{red_item}
-use Rattle.cg_exchange.specs.ExchangeActions.{message_of}
+use Rattle.cg_states.specs.ExchangeActions.{message_of}
 use Rattle.cg_exchange.proofs.sending.push_reds.Given as goal
 
 -- what is sent, and what is still to be sent; the rest of the draft is as before

@@ -1,7 +1,7 @@
 use Rattle.std.proofs.Common.{◌≡◌, sym, subst, IfOk}
 use Rattle.cg_disk.specs.Model.{view_of}
 use Rattle.cg_model.specs.Recorded.{AreBooked}
-use Rattle.cg_model.specs.ReplicaStep.{Input}
+use Rattle.cg_states.specs.ReplicaStep.{Input}
 use Rattle.cg_model.specs.World.{Up}
 use Rattle.cg_world_events.specs.Calls.{taken}
 use Rattle.cg_world_events.specs.Seen.{disk_seen}

@@ -1,7 +1,7 @@
 use Rattle.std.proofs.Common.{◌≡◌, IfOk, Option, refl, subst, arith}
 use Rattle.cg_disk.specs.Model.{view_of, state_of}
 use Rattle.cg_engine.specs.Inputs.{input_of}
-use Rattle.cg_model.specs.ReplicaStep.{replica_step}
+use Rattle.cg_states.specs.ReplicaStep.{replica_step}
 use Rattle.cg_engine.specs.FallLaws.{fallen_within}
 use Rattle.cg_model.specs.World.{Node}
 use Rattle.cg_world_events.specs.Calls.{NodeOutput}

@@ -1,6 +1,6 @@
 use Rattle.std.proofs.Common.{◌≡◌}
 use Rattle.cg_client.specs.Replica.{No, Un}
-use Rattle.cg_construct.specs.No.{no_record}
+use Rattle.cg_states.specs.No.{no_record}
 use Rattle.cg_construct.proofs.Entering.{from_any_state}
 use Rattle.cg_construct.proofs.no.No.deliver.Goals as goal
 

@@ -2,7 +2,7 @@ use Rattle.std.proofs.Common.{refl, sym, ◌∙◌, ap, subst}
 use Rattle.cg_queue.specs.Queue.{green_count}
 use Rattle.cg_disk_records.specs.Commit.{commits}
 use Rattle.cg_model.specs.Recorded.{AreBooked}
-use Rattle.cg_model.specs.ReplicaStep.{replica_step}
+use Rattle.cg_states.specs.ReplicaStep.{replica_step}
 use Rattle.cg_store.specs.Stands.{Stands}
 use Rattle.cg_engine.specs.Inputs.{input_of}
 use Rattle.cg_engine.specs.Seen.{turn_of}

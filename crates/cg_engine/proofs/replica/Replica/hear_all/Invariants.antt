@@ -1,5 +1,5 @@
 use Rattle.std.proofs.Common.{◌≡◌, fold, take}
-use Rattle.cg_model.specs.Hearing.{hear_delivery}
+use Rattle.cg_states.specs.Hearing.{hear_delivery}
 use Rattle.cg_engine.specs.Seen.{turn_of}
 use Rattle.cg_engine.proofs.replica.Replica.hear_all.Given as goal
 

@@ -19,7 +19,7 @@ returns-in-Some-clause-ends g c = λ u v stands behind.
     let written : c.is_some.result ≡ true = search rules in
     subst (λ o. WhetherDue o (Commits view self u v p c.paired.result) (Keeps self p c.paired.result)) (sym c.in-Some.is)
     (subst (λ r. Commits view self u v p r) (sym c.paired.ensures)
-    (paired_writes view self u v p c.write.result _ (λ i. record { made = p.made; sent = c.requires.encoded i; replies = p.replies; green = p.green; written = written i }) (c.write.ensures.ends u v stands here)))
+    (paired_writes view self u v p c.write.result _ (λ i. record { made = p.made; sent = p.sent; replies = p.replies; green = p.green; written = written i }) (c.write.ensures.ends u v stands here)))
 
 pub returns-in-Some-clause-moments : goal.returns-in-Some-clause-moments
 returns-in-Some-clause-moments g c = λ u v stands behind.

@@ -1,6 +1,6 @@
 use Rattle.std.proofs.Common.{◌≡◌, OnOk, Some, None, true, is_some, subst}
 use Rattle.cg_client.specs.Calls.{kind_of}
-use Rattle.cg_model.specs.ReplicaStep.{Asks}
+use Rattle.cg_states.specs.ReplicaStep.{Asks}
 use Rattle.cg_model.specs.World.{NodeState, World, running, node_of, replica_of, set_life}
 use Rattle.cg_model.specs.Show.{StepInProgress}
 use Rattle.cg_world_events.proofs.HandFacts.{nobody-hands, node-hands, node-booked}

@@ -10,12 +10,12 @@ use Rattle.cg_client.specs.Turn.{Turn, begin, go_to}
 use Rattle.cg_client.specs.Marks.{mark_red, mark_yellow, mark_green}
 use Rattle.cg_client.specs.Summary.{enter_exchange}
 use Rattle.cg_client.specs.Requests.{request, settle}
-use Rattle.cg_prim.specs.TransPrim.{trans_prim_on_regular}
-use Rattle.cg_exchange.specs.ExchangeStates.{exchange_states_on_summary}
-use Rattle.cg_exchange.specs.ExchangeActions.{exchange_actions_on_item}
-use Rattle.cg_construct.specs.Construct.{construct_on_cpc}
-use Rattle.cg_construct.specs.No.{no_on_cpc, no_on_regular}
-use Rattle.cg_construct.specs.Un.{un_on_action}
+use Rattle.cg_states.specs.TransPrim.{trans_prim_on_regular}
+use Rattle.cg_states.specs.ExchangeStates.{exchange_states_on_summary}
+use Rattle.cg_states.specs.ExchangeActions.{exchange_actions_on_item}
+use Rattle.cg_states.specs.Construct.{construct_on_cpc}
+use Rattle.cg_states.specs.No.{no_on_cpc, no_on_regular}
+use Rattle.cg_states.specs.Un.{un_on_action}
 
 -- a message of a member, in each state
 unfoldable pub on_message : State → ℕ → Msg → Turn → Turn

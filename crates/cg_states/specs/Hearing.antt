@@ -5,7 +5,7 @@ use Rattle.cg_wire.specs.Reading.{message_in}
 use Rattle.cg_group.specs.declared.delivery.Delivery.{Delivery}
 use Rattle.cg_group.specs.declared.delivery.Delivery.TheVariants.{Message, Transitional as TransitionalIn, Regular as RegularIn}
 use Rattle.cg_client.specs.Turn.{Turn}
-use Rattle.cg_model.specs.ReplicaStep.{on_message, on_transitional, on_regular}
+use Rattle.cg_states.specs.ReplicaStep.{on_message, on_transitional, on_regular}
 
 -- a message, where there is one
 abbrev pub hear : Turn → ℕ → Option Msg → Turn

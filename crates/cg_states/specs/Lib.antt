@@ -1,0 +1,9 @@
+pub mod TransPrim
+pub mod PlanEnd
+pub mod ExchangeActions
+pub mod ExchangeStates
+pub mod Construct
+pub mod No
+pub mod Un
+pub mod ReplicaStep
+pub mod Hearing
