@@ -1,4 +1,5 @@
 pub mod Picture
+pub mod PlaceFacts
 pub mod Growing
 pub mod Delivering
 pub mod PartingTogether

@@ -29,11 +29,25 @@ impl<M> Model for Roster<M> {
     ghost invariant = { λ r. IsRoster r.members.items };
 }
 
-// where a replica stands, from 0
-fn position_of<M>(members: &[Member<M>], p: ReplicaId) -> Option<usize>
+// where a replica stands, from 0. The identifiers ascend from 1, so its place is below its number: it is looked for from
+// there backwards, and is the first one there where all replicas below it are up
+fn place_of<M>(members: &[Member<M>], p: ReplicaId) -> Option<usize>
+    requires { IsRoster members.now }
     ensures { result ≡ position (λ s. s.id == p) members.now }
 {
-    members.iter().position(|m| m.id() == p)
+    let number = p.get();
+    let mut left = members.len().min(usize::from(number));
+    while left > 0 {
+        left -= 1;
+        let id = members[left].id().get();
+        if id == number {
+            return Some(left);
+        }
+        if id < number {
+            return None;
+        }
+    }
+    None
 }
 
 // the set, with a regular replica whose messages wait for a place
@@ -68,7 +82,11 @@ impl<M> Roster<M> {
     pub(crate) fn find(&self, p: ReplicaId) -> Option<&Member<M>>
         ensures { option_copied result ≡ found self.now p }
     {
-        self.members.as_slice().iter().find(|m| m.id() == p)
+        let members = self.members.as_slice();
+        match place_of(members, p) {
+            Some(i) => Some(&members[i]),
+            None => None,
+        }
     }
 
     /// The configuration in which a replica is regular, 0 for none.
@@ -130,7 +148,7 @@ impl<M> Roster<M> {
         M: Drop,
         ensures { self.new ≡ filter (λ s. not (s.id == p)) self.old }
     {
-        match position_of(self.members.as_slice(), p) {
+        match place_of(self.members.as_slice(), p) {
             Some(i) => {
                 let _gone = self.members.remove(i);
             }
@@ -145,7 +163,7 @@ impl<M> Roster<M> {
         ensures ok { OnOk result (self.new ≡ changing (λ s. waiting s message) self.old p) }
         ensures err { OnErr result (self.new ≡ self.old) }
     {
-        match position_of(self.members.as_slice(), p) {
+        match place_of(self.members.as_slice(), p) {
             Some(i) => {
                 let member = &mut self.members[i];
                 member.send(message)
@@ -162,7 +180,7 @@ impl<M> Roster<M> {
             × (self.new ≡ with_standing self.old (with_unordered s rest))) }
         ensures roster { IsRoster self.old }
     {
-        match position_of(self.members.as_slice(), p) {
+        match place_of(self.members.as_slice(), p) {
             Some(i) => {
                 let member = &mut self.members[i];
                 member.take_oldest()
@@ -175,7 +193,7 @@ impl<M> Roster<M> {
     pub(crate) fn hand_out(&mut self, p: ReplicaId, count: u64)
         ensures { self.new ≡ changing (λ s. handed_so_far s count) self.old p }
     {
-        match position_of(self.members.as_slice(), p) {
+        match place_of(self.members.as_slice(), p) {
             Some(i) => {
                 let member = &mut self.members[i];
                 member.hand_out(count);
@@ -196,7 +214,7 @@ impl<M> Roster<M> {
           unordered = [];
         }) }
     {
-        match position_of(self.members.as_slice(), p) {
+        match place_of(self.members.as_slice(), p) {
             Some(i) => {
                 let member = &mut self.members[i];
                 member.enter(phase, delivered);

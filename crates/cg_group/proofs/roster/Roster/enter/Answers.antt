@@ -10,7 +10,7 @@ invariant_of-self g c =
 
 pub returns-in-Some : goal.returns-in-Some
 returns-in-Some g c =
-    let at = rw c.as_slice.ensures.value at (sym c.position_of.ensures ∙ c.in-Some.is) in
+    let at = rw c.as_slice.ensures.value at (sym c.place_of.ensures ∙ c.in-Some.is) in
     let w = found_there c.self.inside.members.items c.args.p c.in-Some.i c.index_mut-member.result.now at in
     rw (← c.self.view_is)
     (set-with_standing c.self.inside.members.items 1 c.in-Some.i c.enter.new.self c.index_mut-member.result.now c.self.invariant.ascends w.0
@@ -20,7 +20,7 @@ returns-in-Some g c =
 
 pub returns-in-None : goal.returns-in-None
 returns-in-None g c =
-    let away = rw c.as_slice.ensures.value at (sym c.position_of.ensures ∙ c.in-None.is) in
+    let away = rw c.as_slice.ensures.value at (sym c.place_of.ensures ∙ c.in-None.is) in
     let nowhere = found_nowhere c.self.inside.members.items c.args.p away in
     let clash : false ≡ true = sym (ap is_some (rw c.self.view_is at nowhere)) ∙ c.requires in
     absurd cc

@@ -10,7 +10,7 @@ invariant_of-self g c =
 
 pub returns-in-Some : goal.returns-in-Some
 returns-in-Some g c =
-    let at = rw c.as_slice.ensures.value at (sym c.position_of.ensures ∙ c.in-Some.is) in
+    let at = rw c.as_slice.ensures.value at (sym c.place_of.ensures ∙ c.in-Some.is) in
     rw (← c.self.view_is)
     (changed_there (λ s. handed_so_far s c.args.count) c.self.inside.members.items c.args.p c.in-Some.i c.index_mut-member.result.now c.hand_out.new.self at c.self.invariant
     (c.hand_out.ensures ∙ ap (λ s. handed_so_far s c.args.count) c.index_mut-member.ensures.value)
@@ -18,5 +18,5 @@ returns-in-Some g c =
 
 pub returns-in-None : goal.returns-in-None
 returns-in-None g c =
-    let away = rw c.as_slice.ensures.value at (sym c.position_of.ensures ∙ c.in-None.is) in
+    let away = rw c.as_slice.ensures.value at (sym c.place_of.ensures ∙ c.in-None.is) in
     rw (← c.self.view_is) (changed_nowhere (λ s. handed_so_far s c.args.count) c.self.inside.members.items c.args.p away)

@@ -10,7 +10,7 @@ invariant_of-self g c =
 
 pub returns-in-Some-clause-ok : goal.returns-in-Some-clause-ok
 returns-in-Some-clause-ok g c =
-    let at = rw c.as_slice.ensures.value at (sym c.position_of.ensures ∙ c.in-Some.is) in
+    let at = rw c.as_slice.ensures.value at (sym c.place_of.ensures ∙ c.in-Some.is) in
     rw (← c.self.view_is)
     (ok_then c.send.result (λ (e : c.send.new.self ≡ waiting c.index_mut-member.result.now c.args.message).
     changed_there (λ s. waiting s c.args.message) c.self.inside.members.items c.args.p c.in-Some.i c.index_mut-member.result.now c.send.new.self at c.self.invariant
@@ -19,5 +19,5 @@ returns-in-Some-clause-ok g c =
 
 pub returns-in-None-clause-ok : goal.returns-in-None-clause-ok
 returns-in-None-clause-ok g c =
-    let away = rw c.as_slice.ensures.value at (sym c.position_of.ensures ∙ c.in-None.is) in
+    let away = rw c.as_slice.ensures.value at (sym c.place_of.ensures ∙ c.in-None.is) in
     rw (← c.self.view_is) (changed_nowhere (λ s. waiting s c.args.message) c.self.inside.members.items c.args.p away)

@@ -10,7 +10,7 @@ invariant_of-self g c =
 
 pub returns-in-Some-clause-taken : goal.returns-in-Some-clause-taken
 returns-in-Some-clause-taken g c =
-    let at = rw c.as_slice.ensures.value at (sym c.position_of.ensures ∙ c.in-Some.is) in
+    let at = rw c.as_slice.ensures.value at (sym c.place_of.ensures ∙ c.in-Some.is) in
     let taken = rw c.index_mut-member.ensures.value at c.take_oldest.ensures.taken in
     rw (← c.self.view_is)
     (taken_there c.take_oldest.result c.self.inside.members.items c.args.p c.in-Some.i c.index_mut-member.result.now c.take_oldest.new.self at c.self.invariant
@@ -18,5 +18,5 @@ returns-in-Some-clause-taken g c =
 
 pub returns-in-None-clause-taken : goal.returns-in-None-clause-taken
 returns-in-None-clause-taken g c =
-    let away = rw c.as_slice.ensures.value at (sym c.position_of.ensures ∙ c.in-None.is) in
+    let away = rw c.as_slice.ensures.value at (sym c.place_of.ensures ∙ c.in-None.is) in
     (refl, rw (← c.self.view_is) (ap (λ o. option_map_or (λ s. s.unordered) o []) (found_nowhere c.self.inside.members.items c.args.p away)))
