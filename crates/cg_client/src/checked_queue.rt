@@ -120,8 +120,7 @@ impl CheckedQueue {
         ensures value { IfOk result (λ list. list ≡ self.now.greens) }
         ensures each { Each IsAction self.now.greens }
     {
-        // its clause bounds the white count
-        let _count = self.queue.green_count();
+        self.queue.holds();
         self.queue.greens_from(self.queue.white_count() + 1)
     }
 
@@ -215,6 +214,16 @@ impl CheckedQueue {
         ensures { result ≡ index_in self.now.green_cut creator }
     {
         self.queue.green_index(creator)
+    }
+
+    /// What always holds of the actions that are known.
+    pub(crate) fn holds(&self)
+        ensures most { green_count self.now ≤ COUNT_LIMIT }
+        ensures kept { AreKept self.now }
+        ensures green_cut { IsSmallCut self.now.green_cut }
+        ensures red_cut { IsSmallCut self.now.red_cut }
+    {
+        self.queue.holds();
     }
 
     /// The number of greens, discarded ones counted.

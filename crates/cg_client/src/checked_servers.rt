@@ -1,6 +1,8 @@
 ghost use Rattle.std.specs.Prelude.{◌≡◌, ◌≤◌};
 ghost use Rattle.cg_base.specs.declared.limits.TheConstants.{COUNT_LIMIT};
+ghost use Rattle.cg_base.specs.Sets.{IsSet};
 ghost use Rattle.cg_action.specs.ActionLimits.{IsAction};
+ghost use Rattle.cg_members.specs.Listed.{AreServers};
 ghost use Rattle.cg_members.specs.Servers.{starting, after_green, weight_of, white_line};
 ghost use Rattle.cg_base.specs.Lists.{Each};
 ghost use Rattle.cg_records.specs.Limits.{IsNumber};
@@ -87,5 +89,14 @@ impl CheckedServers {
         ensures lines { Each (λ server. IsNumber server.line) self.now.servers }
     {
         &self.members
+    }
+
+    /// What always holds of the servers, and of those that have left.
+    pub(crate) fn holds(&self)
+        ensures servers { AreServers self.now.servers }
+        ensures lines { Each (λ server. IsNumber server.line) self.now.servers }
+        ensures left { IsSet self.now.left }
+    {
+        self.members.holds();
     }
 }

@@ -43,8 +43,7 @@ pub fn is_number(n: u64) -> bool
 fn is_prim(prim: &Primary) -> bool
     ensures { IsTrue result → IsPrimary prim.now }
 {
-    // its clause says that the members are a set with weights
-    let _members = prim.set.iter();
+    prim.set.holds();
     is_number(prim.index) && is_number(prim.conf)
 }
 
@@ -54,9 +53,8 @@ fn is_record(v: &Option<Vulnerable>) -> bool
     match v {
         None => true,
         Some(v) => {
-            // their clauses say that these are sets
-            let _set = v.set.count();
-            let _bits = v.bits.count();
+            v.set.holds();
+            v.bits.holds();
             is_number(v.attempt) && is_number(v.from)
         }
     }
@@ -71,7 +69,7 @@ impl Components {
           vulnerable = None;
         } }
     {
-        let _members = set.iter();
+        set.holds();
         Components {
             prim: Primary {
                 index: 0,

@@ -69,6 +69,14 @@ impl Entries {
         &self.db
     }
 
+    /// What always holds of the entries.
+    pub(crate) fn holds(&self)
+        ensures limits { AreEntries self.now }
+        ensures ascends { Ascends self.now }
+    {
+        self.db.holds();
+    }
+
     pub(crate) fn list(&self) -> Result<EntryList, NoMemory>
         ensures value { IfOk result (λ list. list ≡ self.now) }
         ensures ascends { IfOk result Ascends }

@@ -23,8 +23,7 @@ pub(crate) fn answer_behind(
 ) -> Result<Answer, NoMemory>
     ensures { IfOk result (λ found. found ≡ answer (behind db.now actions) q.now) }
 {
-    // its clause says that the entries ascend
-    let _count = db.count();
+    db.holds();
     let list = actions.into_list();
     let before = named_part(alloc, db, list.as_slice())?;
     let mut after = before.copy()?;

@@ -90,6 +90,13 @@ impl Own {
         self.actions.get(i)
     }
 
+    /// What always holds of the actions that wait.
+    pub(crate) fn holds(&self)
+        ensures { Each IsAction self.now }
+    {
+        let _ = &self.actions;
+    }
+
     /// How many actions wait.
     pub fn len(&self) -> usize
         ensures { result ≡ length self.now }

@@ -5,11 +5,14 @@ ghost use Rattle.cg_base.specs.declared.limits.TheConstants.{COUNT_LIMIT};
 ghost use Rattle.cg_base.specs.Cuts.{index_in};
 ghost use Rattle.cg_base.specs.Ids.{has_name};
 ghost use Rattle.cg_base.specs.Lists.{at_place, Each};
+ghost use Rattle.cg_base.specs.Sets.{IsId, IsSet};
 ghost use Rattle.cg_action.specs.ActionLimits.{IsAction};
 ghost use Rattle.cg_db.specs.Limits.{AreEntries};
 ghost use Rattle.cg_db.specs.Ascending.{Ascends};
+ghost use Rattle.cg_members.specs.Listed.{AreServers};
 ghost use Rattle.cg_records.specs.Limits.{IsNumber, IsSmallCut, IsPrimary, IsMaybeVulnerable};
 ghost use Rattle.cg_queue.specs.Queue.{action_of, green_count, names_of};
+ghost use Rattle.cg_client.specs.Kept.{AreKept};
 ghost use Rattle.cg_client.specs.Replica.{created};
 
 use crate::Core;
@@ -20,6 +23,27 @@ use cg_records::{Primary, Vulnerable};
 use std::alloc::Global;
 
 impl Core {
+    /// What always holds of a replica.
+    pub fn holds(&self)
+        ensures id { IsId self.now.id }
+        ensures count { green_count self.now.queue ≤ COUNT_LIMIT }
+        ensures kept { AreKept self.now.queue }
+        ensures green_cut { IsSmallCut self.now.queue.green_cut }
+        ensures red_cut { IsSmallCut self.now.queue.red_cut }
+        ensures own { Each IsAction self.now.own }
+        ensures entries { AreEntries self.now.db }
+        ensures ascends { Ascends self.now.db }
+        ensures servers { AreServers self.now.members.servers }
+        ensures lines { Each (λ server. IsNumber server.line) self.now.members.servers }
+        ensures left { IsSet self.now.members.left }
+    {
+        self.held.id.holds();
+        self.held.queue.holds();
+        self.held.own.holds();
+        self.held.db.holds();
+        self.held.members.holds();
+    }
+
     pub fn id(&self) -> ReplicaId
         ensures { result ≡ self.now.id }
     {

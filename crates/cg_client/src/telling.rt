@@ -120,9 +120,8 @@ impl Core {
             return Err(NoMemory);
         }
         let left = self.held.members.left();
-        // their clauses say that this is an identifier, and that a set
-        let _number = self.held.id.get();
-        let _count = left.count();
+        self.held.id.holds();
+        left.holds();
         Ok(Summary {
             id: self.held.id,
             conf,

@@ -1,5 +1,5 @@
 //! The attempt that a replica's record tells of.
-ghost use Rattle.std.specs.Prelude.{◌≡◌, Some, option_map};
+ghost use Rattle.std.specs.Prelude.{◌≡◌, ℕ, Some, option_map};
 ghost use Rattle.cg_construct.specs.Attempt.{attempt_of};
 ghost use Rattle.cg_states.specs.Construct.{attempt_set, is_announced};
 
@@ -16,12 +16,10 @@ pub(crate) fn attempt_set(core: &Core) -> IdSet
     }
 }
 
-/// The members of the attempt in this configuration.
-pub(crate) fn set_of_attempt(core: &Core, conf: u64) -> IdSet
-    requires { attempt_of core.now ≡ Some conf }
-    ensures { option_map (λ v. v.set) core.now.vulnerable ≡ Some result }
+/// The members of the attempt that the record tells of.
+pub(crate) fn set_of_attempt(core: &Core) -> IdSet
+    ensures { (conf : ℕ) → attempt_of core.now ≡ Some conf → option_map (λ v. v.set) core.now.vulnerable ≡ Some result }
 {
-    let _conf = conf;
     match core.vulnerable() {
         Some(v) => v.set,
         None => IdSet::empty(),

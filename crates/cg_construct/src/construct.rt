@@ -121,7 +121,7 @@ impl Construct {
         if !attempt_set(&core).is_within(&heard) {
             return Ok(ConstructStep::Construct(Construct { core, conf, heard }));
         }
-        let set = set_of_attempt(&core, conf);
+        let set = set_of_attempt(&core);
         let installed = Installed::make(core, draft, set)?;
         Ok(ConstructStep::Installed(installed))
     }

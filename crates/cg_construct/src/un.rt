@@ -90,7 +90,7 @@ impl Un {
             Msg::Action(action) => {
                 let Un { core, conf } = self;
                 let action = action.copy(core.alloc())?;
-                let set = set_of_attempt(&core, conf);
+                let set = set_of_attempt(&core);
                 let installed = Installed::make(core, draft, set)?;
                 Ok(ConstructStep::InstalledBy { installed, action })
             }

@@ -199,6 +199,13 @@ impl Db {
         self.map.len() as u64
     }
 
+    /// What always holds of a database.
+    pub fn holds(&self)
+        ensures { Ascends self.now }
+    {
+        let _ = &self.map;
+    }
+
     pub(crate) fn alloc(&self) -> Global {
         self.alloc
     }

@@ -92,8 +92,7 @@ fn reds_count(reds: &[Action], from: Cut, to: &Cut) -> bool
     let mut at = from;
     for a in reds {
         let ActionId { creator, index } = a.id;
-        // it says which creators there are
-        let _number = creator.get();
+        creator.holds();
         let last = at.get(creator);
         if last >= to.get(creator) || index != last + 1 {
             return false;

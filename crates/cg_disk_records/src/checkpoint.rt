@@ -77,8 +77,7 @@ pub fn read_checkpoint(
 ) -> Result<Option<Checkpoint>, NoMemory>
     ensures { IfOk result (FindsCheckpoint id bytes.now) }
 {
-    // it says which identifiers there are
-    let _number = id.get();
+    id.holds();
     match decode_checkpoint(alloc, bytes) {
         Ok(checkpoint) => Ok(checkpoint.of(id)),
         Err(fault) => match fault.number() {

@@ -59,8 +59,7 @@ fn green_at(core: &Core, i: u32) -> Option<&Action>
     ensures { option_copied result ≡ slice_get core.now.queue.greens i }
 {
     let queue = core.queue();
-    // its clause bounds the white count
-    let _count = queue.green_count();
+    queue.holds();
     queue.green_at(queue.white_count() + 1 + u64::from(i))
 }
 

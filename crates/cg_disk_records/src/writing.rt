@@ -39,16 +39,7 @@ fn within_limits(core: &Core) -> Result<Stable, NoMemory>
 {
     let stable = core.stable()?;
     are_short(core)?;
-    // these say what else is so of what a replica holds
-    let _id = core.id().get();
-    let _count = core.queue().green_count();
-    let _green_cut = core.green_cut();
-    let _red_cut = core.red_cut();
-    let _own = core.own_at(0);
-    let _entries = core.db().count();
-    let members = core.members();
-    let _servers = members.servers().iter();
-    let _left = members.left().count();
+    core.holds();
     Ok(stable)
 }
 

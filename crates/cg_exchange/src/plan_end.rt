@@ -100,8 +100,7 @@ fn attempt(
 {
     core.begin_attempt(conf, remaining(summaries))?;
     let id = core.id();
-    // its clause says that this is an identifier
-    let _number = id.get();
+    id.holds();
     draft.send(Msg::Cpc { id, conf })?;
     Ok(ExchangeStep::Attempt { core, conf })
 }

@@ -62,7 +62,7 @@ fn add_receipt<M>(placed: &mut OrderedMessage<M>, p: ReplicaId, in_turn: bool)
     if in_turn {
         placed.in_turn.add(p);
     }
-    let _is_there = placed.received.contains(p);
+    placed.received.holds();
 }
 
 // each of the members is among those who have received a place
@@ -70,7 +70,7 @@ fn is_complete(received: &IdSet, members: &IdSet) -> bool
     ensures within { result ≡ true → is_within members.now received.now ≡ true }
     ensures set { IsSet received.now }
 {
-    let _set = received.iter();
+    received.holds();
     members.is_within(received)
 }
 

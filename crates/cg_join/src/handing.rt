@@ -32,8 +32,7 @@ fn hand_piece<D: Disk>(writer: &SnapshotWriter, joiner: &mut Joiner<D>) -> Resul
     ensures err { OnErr result (joiner.new ≡ joiner.old) }
 {
     snapshots_are_taken();
-    // it says how many pieces there are at most
-    let _count = writer.count();
+    writer.holds();
     let bytes = writer.piece(joiner.taken() + 1)?;
     match joiner.piece(bytes.as_slice()) {
         Ok(_last) => Ok(()),

@@ -67,6 +67,13 @@ impl SnapshotWriter {
         Ok(SnapshotWriter { name, parts, alloc })
     }
 
+    /// What always holds of a snapshot.
+    pub fn holds(&self)
+        ensures { length self.now.parts ≤ COUNT_LIMIT }
+    {
+        let _ = &self.parts;
+    }
+
     /// The number of pieces.
     pub fn count(&self) -> u64
         ensures value { result ≡ length self.now.parts }
@@ -81,8 +88,7 @@ impl SnapshotWriter {
         ensures value { IfOk result (λ bytes. bytes_at self.now n ≡ Some bytes) }
         ensures piece { IfSome (slice_get self.now.parts (n - 1)) (λ part. IsPiece (piece_at self.now n part)) }
     {
-        // it says which identifiers there are
-        let _giver = self.name.giver.get();
+        self.name.giver.holds();
         let label = Label {
             name: self.name,
             number: n,
@@ -101,9 +107,7 @@ fn head_of(core: &Core) -> Head
 {
     let queue = core.queue();
     let members = core.members();
-    // these say what is so of every replica's members
-    let _servers = members.servers().iter();
-    let _left = members.left().count();
+    members.holds();
     Head {
         prim: core.prim(),
         attempt_index: core.attempt_index(),

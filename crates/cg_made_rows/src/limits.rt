@@ -1,6 +1,7 @@
 //! The limits within which all actions lie that replicas create.
 
-ghost use Rattle.std.specs.Prelude.{◌≡◌, true, All};
+ghost use Rattle.std.specs.Prelude.{◌≡◌, true, All, FitsSigned};
+ghost use Rattle.std.specs.Int.{w64};
 ghost use Rattle.cg_action.specs.ActionLimits.{IsAction, IsCommand, IsKey, IsValue, IsWant};
 ghost use Rattle.cg_action.specs.Limits.{IsAskedOf, IsKind, IsTextWithin, IsUpdate};
 
@@ -12,7 +13,7 @@ use cg_text::Txt;
 pub(crate) fn is_action(action: &Action) -> bool
     ensures { result ≡ true → IsAction action.now }
 {
-    let _creator = action.id.creator.get();
+    action.id.creator.holds();
     let index = action.id.index;
     0 < index && index < NUMBER_LIMIT && action.green_line < NUMBER_LIMIT && is_kind(&action.kind)
 }
@@ -23,11 +24,11 @@ fn is_kind(kind: &Kind) -> bool
     match kind {
         Kind::Update { cmds, query } => is_update(cmds.as_slice(), query),
         Kind::Join(joiner, weight) => {
-            let _joiner = joiner.get();
+            joiner.holds();
             *weight >= 1
         }
         Kind::Leave(server) => {
-            let _server = server.get();
+            server.holds();
             true
         }
     }
@@ -58,7 +59,7 @@ fn is_command(cmd: &Cmd) -> bool
         Cmd::Put { key, value } => is_key(key) && is_value(value),
         Cmd::Del { key } => is_key(key),
         Cmd::Inc { key, by } => {
-            let _by = *by;
+            integer_fits(*by);
             is_key(key)
         }
         Cmd::Cas { key, want, value } => is_key(key) && is_want(want) && is_value(value.get()),
@@ -99,11 +100,16 @@ fn is_value(value: &Value) -> bool
     match value {
         Value::Text(text) => is_text(text, 0, 1024),
         Value::Int(number) => {
-            let _number = *number;
+            integer_fits(*number);
             true
         }
     }
 }
+
+// what holds of every integer
+fn integer_fits(n: i64)
+    ensures { FitsSigned w64 n }
+{}
 
 fn is_key(key: &Txt) -> bool
     ensures { result ≡ true → IsKey key.now }

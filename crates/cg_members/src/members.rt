@@ -22,6 +22,8 @@ impl Model for Members {
 }
 
 impl Members {
+    ghost use Rattle.cg_base.specs.Sets.{IsSet};
+    ghost use Rattle.cg_members.specs.Listed.{AreServers};
     ghost use Rattle.cg_members.specs.Servers.{starting, is_server, was_ever, with_joiner, departed, raise_line, after_green, weight_of, white_line};
 
     /// The members before the first green action: these servers, each with line 0.
@@ -117,6 +119,15 @@ impl Members {
         ensures { result ≡ self.now.left }
     {
         self.left
+    }
+
+    /// What always holds of members.
+    pub fn holds(&self)
+        ensures servers { AreServers self.now.servers }
+        ensures left { IsSet self.now.left }
+    {
+        self.servers.holds();
+        self.left.holds();
     }
 
     /// The replica is or was a server.

@@ -46,8 +46,7 @@ impl ServerSet {
     pub fn of(set: WeightSet) -> ServerSet
         ensures { result ≡ map first_line set }
     {
-        // it says that the set is one
-        let _members = set.iter();
+        set.holds();
         ServerSet {
             weights: set,
             members: set.ids(),
@@ -160,6 +159,13 @@ impl ServerSet {
             weights: self.weights.iter(),
             lines: self.lines,
         }
+    }
+
+    /// What always holds of a set of servers.
+    pub fn holds(&self)
+        ensures { AreServers self.now }
+    {
+        let _ = &self.weights;
     }
 }
 

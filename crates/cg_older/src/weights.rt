@@ -37,8 +37,7 @@ fn has_heavy_kept(core: &Core) -> bool
 fn has_heavy_known(core: &Core) -> bool
     ensures { result ≡ list_any is_heavy_join (core.now.queue.greens ++ core.now.queue.reds) }
 {
-    // it says what the cuts and the names are to each other
-    let _red_cut = core.queue().red_cut();
+    core.queue().holds();
     has_heavy_green(core) || has_heavy_red(core)
 }
 
@@ -80,8 +79,7 @@ fn green_at(core: &Core, i: u64) -> Option<&Action>
     requires { i < length core.now.queue.greens }
     ensures { option_copied result ≡ slice_get core.now.queue.greens i }
 {
-    // its clause bounds the white count
-    let _count = core.green_count();
+    core.holds();
     core.green_at(core.white_count() + 1 + i)
 }
 

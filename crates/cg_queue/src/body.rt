@@ -79,11 +79,9 @@ pub(crate) fn name_of(a: &Action) -> ActionId
     ensures creator { IsId a.now.id.creator }
     ensures small { result.index < 2 ^ 64 }
 {
-    let creator = a.id.creator;
-    // it says which numbers creators have
-    let _number = creator.get();
+    a.id.creator.holds();
     ActionId {
-        creator,
+        creator: a.id.creator,
         index: number(a.id.index),
     }
 }

@@ -368,6 +368,14 @@ impl Queue {
         self.body.green_cut.get(creator)
     }
 
+    /// What always holds of a queue.
+    pub fn holds(&self)
+        ensures most { green_count self.now ≤ COUNT_LIMIT }
+        ensures shown { IsShown self.now }
+    {
+        let _ = &self.body;
+    }
+
     /// The number of greens, discarded ones counted.
     pub fn green_count(&self) -> u64
         ensures count { result ≡ green_count self.now }

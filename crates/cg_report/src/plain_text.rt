@@ -48,6 +48,9 @@ fn put_each_name<F: HasFront>(out: &mut Page<F>, ids: &[ActionId]) -> Result<(),
 pub(crate) fn put_runs<F: HasFront>(out: &mut Page<F>, ids: &IdRuns) -> Result<(), NoMemory>
     ensures { OnOk result (out.new ≡ out.old ++ id_list_text ids.now) }
 {
+    if ids.is_empty() {
+        return out.put(b"[]");
+    }
     out.put_shown(ids)
 }
 

@@ -1,6 +1,7 @@
 //! Lines of logs, which are compared: each log is kept.
 ghost use Rattle.std.specs.Prelude.{◌≡◌, ◌<◌, IfOk, Ok, OnOk, Some};
 ghost use Rattle.cg_base.specs.declared.limits.TheConstants.{COUNT_LIMIT};
+ghost use Rattle.cg_io.specs.Outside.{SinkView};
 ghost use Rattle.cg_items.specs.declared.companion.Companion.TheVariants.{Comparing};
 ghost use Rattle.cg_outcome.specs.Outcome.{line_outcome, log_outcome};
 ghost use Rattle.cg_outcome.specs.Produced.{went_on};
@@ -32,18 +33,12 @@ fn keep(progress: &mut Progress, number: u64, line: LogLine) -> Result<(), NoMem
 }
 
 // A line that was read.
-fn take_line<K: Sink>(
-    line: Line,
-    output: &mut K,
-    read: LogLine,
-    progress: Progress,
-) -> Result<Progress, Status>
+fn take_line(line: Line, read: LogLine, progress: Progress) -> Result<Progress, Status>
     requires { (seen progress).companion ≡ Comparing }
-    ensures performs { Performs line.report (log_outcome line.number (Ok (Some read)) (seen progress))
-        (K.view output.old) (K.view output.new) result }
+    ensures performs { (shown : SinkView) → Performs
+        line.report (log_outcome line.number (Ok (Some read)) (seen progress)) shown shown result }
     ensures under_way { IsUnderWay (seen progress) → IfOk result (λ s. IsUnderWay (seen s)) }
 {
-    let _output = output;
     let mut progress = progress;
     match keep(&mut progress, line.number, read) {
         Ok(()) => Ok(progress),
@@ -70,7 +65,7 @@ pub fn begin_log<K: Sink>(
 {
     match read_log_line(line.alloc, progress.beside.reader.state().ended, text) {
         Ok(None) => Ok(progress),
-        Ok(Some(read)) => take_line(line, output, read, progress),
+        Ok(Some(read)) => take_line(line, read, progress),
         Err(fault) => {
             let count = progress.beside.count;
             drop(progress);

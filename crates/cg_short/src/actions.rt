@@ -8,9 +8,7 @@ use cg_action::{BoxedOption, Cmd, Kind, Value};
 
 pub fn integer_is_short(n: i64)
     ensures { IsShortInt n }
-{
-    let _number = n;
-}
+{}
 
 pub fn value_is_short(value: &Value)
     ensures { IsShortValue value.now }

@@ -7,20 +7,16 @@ use cg_base::{ActionId, IdRuns, IdSet, ReplicaId, WeightSet};
 
 pub fn number_is_short(n: u64)
     ensures { IsShort n }
-{
-    let _number = n;
-}
+{}
 
 pub fn byte_is_short(n: u8)
     ensures { IsShort n }
-{
-    let _number = n;
-}
+{}
 
 pub fn replica_is_short(p: ReplicaId)
     ensures { IsShort p }
 {
-    let _number = p.get();
+    p.holds();
 }
 
 pub fn id_is_short(id: ActionId)
@@ -48,11 +44,11 @@ pub fn runs_are_short(ids: &IdRuns)
 pub fn set_is_short(set: IdSet)
     ensures { Each IsShort set }
 {
-    let _members = set.iter();
+    set.holds();
 }
 
 pub fn weights_are_short(set: WeightSet)
     ensures { Each IsShortMember set }
 {
-    let _members = set.iter();
+    set.holds();
 }

@@ -209,7 +209,7 @@ pub(crate) fn split_refused(state: &WorldState, set: &IdSet) -> Option<Reason>
     ensures reason { result ≡ first_some (empty_set set.now ∷ any_of (unknown state.now) set.now ∷ []) }
     ensures set { IsSet set.now }
 {
-    let _members = set.iter();
+    set.holds();
     first_of(&[empty_set(set), first_unknown(state, set)])
 }
 
@@ -219,7 +219,7 @@ pub(crate) fn merge_refused(state: &WorldState, set: &IdSet) -> Option<Reason>
         ∷ any_of (not_up state.now.group) set.now ∷ any_of (has_left state.now) set.now ∷ []) }
     ensures set { IsSet set.now }
 {
-    let _members = set.iter();
+    set.holds();
     first_of(&[
         empty_set(set),
         first_unknown(state, set),

@@ -15,7 +15,7 @@ returns-in-Ok-None-clause-performs g c =
 pub returns-in-Ok-Some-clause-performs : goal.returns-in-Ok-Some-clause-performs
 returns-in-Ok-Some-clause-performs g c =
     let is : reading (seen c.args.progress).reader.ended c.args.text.now ≡ Ok (Some c.in-Ok-Some.read) = search rules in
-    rw (line-log c.args.line.number c.args.text.now (seen c.args.progress) (Ok (Some c.in-Ok-Some.read)) c.requires.compares is) c.take_line.ensures.performs
+    rw (line-log c.args.line.number c.args.text.now (seen c.args.progress) (Ok (Some c.in-Ok-Some.read)) c.requires.compares is) (c.take_line.ensures.performs _)
 
 pub returns-in-Err-clause-performs : goal.returns-in-Err-clause-performs
 returns-in-Err-clause-performs g c =
