@@ -2,7 +2,7 @@ ghost use Rattle.std.specs.Prelude.{◌≡◌, IfOk};
 
 use crate::commands::copy_commands;
 use crate::query::copy_query;
-use crate::{CmdList, Query};
+use crate::{CmdList, Query, Shared};
 use cg_base::{ActionId, NoMemory, ReplicaId, Row};
 use std::alloc::Global;
 
@@ -33,7 +33,7 @@ pub struct Action {
     pub id: ActionId,
     /// Its creator's green count when it was created.
     pub green_line: u64,
-    pub kind: Kind,
+    pub kind: Shared<Kind>,
 }
 
 impl Drop for Action {
@@ -67,7 +67,7 @@ impl Kind {
 }
 
 impl Action {
-    /// Another action that is the same.
+    /// Another action that is the same. Both share what they do.
     pub fn copy(&self, alloc: Global) -> Result<Action, NoMemory>
         ensures { IfOk result (λ action. action ≡ self.now) }
     {
@@ -80,7 +80,7 @@ impl Action {
     }
 
     /// What it does.
-    pub fn into_kind(self) -> Kind
+    pub fn into_kind(self) -> Shared<Kind>
         ensures { result ≡ self.kind }
     {
         let Action {

@@ -23,6 +23,7 @@ mod limited;
 mod print;
 mod query;
 mod reading;
+mod shared;
 mod value;
 mod writing;
 
@@ -39,5 +40,6 @@ pub use limited::{Limited, Limits};
 pub use print::{Update, print_kind, print_value};
 pub use query::{Query, copy_query};
 pub use reading::{decode, take_action, take_action_id, take_value};
+pub use shared::Shared;
 pub use value::Value;
 pub use writing::{encode, put_action, put_value};

@@ -132,7 +132,7 @@ impl Display for Action {
     ghost output = { λ action. Some (id_text action.id ++ codes " " ++ kind_text action.kind) };
 
     fn fmt<W: Write>(&self, f: &mut Formatter<W>) -> fmt::Result {
-        write!(f, "{} {}", self.id, &self.kind)
+        write!(f, "{} {}", self.id, self.kind.get())
     }
 }
 

@@ -6,7 +6,7 @@ ghost use Rattle.cg_codec.specs.Taking.{unread_of, Takes, TakesWithMemory, Decod
 ghost use Rattle.cg_action.specs.ActionLimits.{IsAction};
 ghost use Rattle.cg_action.specs.Reading.{number_from, id_reading, key_reading, value_of_tag, value_reading, want_of_tag, want_reading, amount_reading, put_reading, del_reading, inc_reading, cas_reading, move_reading, need_reading, command_of_tag, command_reading, query_of_tag, query_reading, commands_reading, query_behind, update_reading, heavy_join_reading, kind_of_tag, kind_reading, action_reading};
 
-use crate::{Action, Boxed, BoxedOption, Cmd, CmdList, Kind, Query, Value};
+use crate::{Action, Boxed, BoxedOption, Cmd, CmdList, Kind, Query, Shared, Value};
 use cg_base::{ActionId, NUMBER_LIMIT, ReplicaId};
 use cg_codec::{CodecFault, Fields};
 use cg_text::Txt;
@@ -31,7 +31,7 @@ pub fn take_action(alloc: Global, fields: &mut Fields) -> Result<Action, CodecFa
     let mut after = *fields;
     let id = take_action_id(&mut after)?;
     let green_line = take_number(&mut after, 0)?;
-    let kind = take_kind(alloc, &mut after)?;
+    let kind = Shared::new(alloc, take_kind(alloc, &mut after)?)?;
     *fields = after;
     Ok(Action {
         id,

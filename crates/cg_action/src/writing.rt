@@ -59,7 +59,7 @@ fn write_action(out: &mut Vec<u8>, action: &Action) -> Result<(), NoMemory>
 {
     put_action_id(out, &action.id)?;
     put_u64(out, action.green_line)?;
-    write_kind(out, &action.kind)
+    write_kind(out, action.kind.get())
 }
 
 fn write_value(out: &mut Vec<u8>, value: &Value) -> Result<(), NoMemory>

@@ -50,7 +50,7 @@ fn is_spelled(alloc: Global, action: &Action, bytes: &[u8]) -> bool
 fn say_kind(alloc: Global, action: &Action, bytes: &[u8], out: &mut Vec<u8>)
     requires { IsAction action.now }
 {
-    let _done = print_kind(&action.kind, out);
+    let _done = print_kind(action.kind.get(), out);
     if !is_spelled(alloc, action, bytes) {
         say(out, ", and other bytes");
     }

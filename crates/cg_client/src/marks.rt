@@ -189,7 +189,7 @@ fn reply(
 {
     let id = name_of(a);
     if is_owed(owed, &id) {
-        let answer = answer_to(db, &a.kind)?;
+        let answer = answer_to(db, a.kind.get())?;
         replies.push(Reply { id, effect, answer })?;
     }
     drop_owed(owed, &id);

@@ -44,7 +44,7 @@ fn named_part(alloc: Global, db: &Db, actions: &[Action]) -> Result<Db, NoMemory
 fn take_action(alloc: Global, db: &Db, part: &mut Db, a: &Action) -> Result<(), NoMemory>
     ensures { OnOk result (part.new ≡ with_action db.now part.old a.now) }
 {
-    match &a.kind {
+    match a.kind.get() {
         Kind::Update { cmds, .. } => take_commands(alloc, db, part, cmds.as_slice()),
         Kind::Join(..) => Ok(()),
         Kind::Leave(_) => Ok(()),

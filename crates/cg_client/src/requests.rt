@@ -6,7 +6,7 @@ ghost use Rattle.cg_client.specs.Replica.{State};
 ghost use Rattle.cg_client.specs.Requests.{create, create_kept};
 
 use crate::{Core, Draft, KeptRequest};
-use cg_action::{Action, Kind};
+use cg_action::{Action, Kind, Shared};
 use cg_base::{ActionId, COUNT_LIMIT, NoMemory, Row};
 use cg_wire::Msg;
 use std::mem::replace;
@@ -44,6 +44,7 @@ impl Core {
             index,
         };
         let green_line = self.held.queue.green_count();
+        let kind = Shared::new(self.held.alloc, kind)?;
         let action = Action {
             id,
             green_line,

@@ -67,7 +67,7 @@ impl Db {
         ensures ok { IfOk result (λ effect. apply self.old a.now ≡ record { db = self.new; effect = effect }) }
         ensures err { OnErr result (self.new ≡ self.old) }
     {
-        match &a.kind {
+        match a.kind.get() {
             Kind::Update { cmds, .. } => self.run(cmds.as_slice()),
             Kind::Join(..) => Ok(Effect::Done),
             Kind::Leave(_) => Ok(Effect::Done),

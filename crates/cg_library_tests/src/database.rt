@@ -1,6 +1,6 @@
 ghost use Rattle.cg_action.specs.ActionLimits.{IsCommand};
 
-use cg_action::{Action, Cmd, CmdList, Effect, Kind, Value};
+use cg_action::{Action, Cmd, CmdList, Effect, Kind, Shared, Value};
 use cg_base::{ActionId, NoMemory, ReplicaId};
 use cg_db::Db;
 use cg_text::Txt;
@@ -16,7 +16,7 @@ fn run(alloc: Global, db: &mut Db, cmd: Cmd) -> Result<Effect, NoMemory>
     let action = Action {
         id: ActionId { creator, index: 1 },
         green_line: 0,
-        kind: Kind::Update { cmds, query: None },
+        kind: Shared::new(alloc, Kind::Update { cmds, query: None })?,
     };
     let effect = db.apply(&action);
     drop(action);

@@ -2,7 +2,7 @@ ghost use Rattle.std.specs.Prelude.{◌≤◌, IfOk};
 ghost use Rattle.cg_action.specs.ActionLimits.{IsAction};
 ghost use Rattle.cg_base.specs.Lists.{Each};
 
-use cg_action::{Action, ActionList, Cmd, CmdList, Kind};
+use cg_action::{Action, ActionList, Cmd, CmdList, Kind, Shared};
 use cg_base::{ActionId, NoMemory, ReplicaId};
 use cg_db::Db;
 use cg_disk::ModelDisk;
@@ -20,11 +20,12 @@ fn raise(alloc: Global) -> Result<ActionList, NoMemory>
     let mut cmds = CmdList::new(alloc);
     cmds.push(Cmd::Inc { key, by: 5 })?;
     let creator = ReplicaId::known(1);
+    let kind = Shared::new(alloc, Kind::Update { cmds, query: None })?;
     let mut list = ActionList::new(alloc);
     list.push(Action {
         id: ActionId { creator, index: 1 },
         green_line: 0,
-        kind: Kind::Update { cmds, query: None },
+        kind,
     })?;
     Ok(list)
 }

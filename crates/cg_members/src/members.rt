@@ -58,7 +58,7 @@ impl Members {
         requires { IsAction action.now }
         ensures { self.new ≡ after_green self.old at action.now }
     {
-        match &action.kind {
+        match action.kind.get() {
             Kind::Update { .. } => {}
             Kind::Join(joiner, weight) => self.join(*joiner, at, *weight),
             Kind::Leave(server) => self.leave(*server),

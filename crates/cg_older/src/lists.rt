@@ -61,7 +61,7 @@ fn has_heavy_join(actions: &[Action]) -> bool
 pub(crate) fn is_heavy_join(action: &Action) -> bool
     ensures { result ≡ is_heavy_join action.now }
 {
-    match &action.kind {
+    match action.kind.get() {
         Kind::Join(_, weight) => *weight > 1,
         _ => false,
     }

@@ -56,7 +56,7 @@ impl Relaxed {
         ensures ok { OnOk result (seen self.new ≡ with_action (seen self.old) a.now) }
         ensures err { OnErr result (self.new ≡ self.old) }
     {
-        let cmds = copy_all(self.alloc, counted(&a.kind))?;
+        let cmds = copy_all(self.alloc, counted(a.kind.get()))?;
         self.sums.reserve(cmds.len())?;
         self.registers.reserve(cmds.len())?;
         self.known.holds();

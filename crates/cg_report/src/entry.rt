@@ -1,7 +1,7 @@
 ghost use Rattle.std.specs.Prelude.{◌≡◌};
 
 use crate::Line;
-use cg_action::{Answer, Effect, EntryList, Kind};
+use cg_action::{Answer, Effect, EntryList, Kind, Shared};
 use cg_base::{ActionId, IdList, ReplicaId, Row};
 use std::alloc::Global;
 
@@ -9,7 +9,7 @@ use std::alloc::Global;
 #[derive(PartialEq, Eq)]
 pub struct Made {
     pub id: ActionId,
-    pub kind: Kind,
+    pub kind: Shared<Kind>,
 }
 
 impl Drop for Made {

@@ -17,7 +17,7 @@ fn put_made<F: HasFront>(out: &mut Page<F>, made: &Made) -> Result<(), NoMemory>
     out.put(b"made ")?;
     put_name(out, &made.id)?;
     out.put_byte(b' ')?;
-    out.put_shown(&made.kind)?;
+    out.put_shown(made.kind.get())?;
     out.put_byte(b'\n')
 }
 

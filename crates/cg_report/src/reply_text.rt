@@ -11,7 +11,7 @@ impl Display for Made {
     ghost output = { λ made. Some (made_text made) };
 
     fn fmt<W: Write>(&self, f: &mut Formatter<W>) -> fmt::Result {
-        write!(f, "made {} {}", self.id, &self.kind)
+        write!(f, "made {} {}", self.id, self.kind.get())
     }
 }
 

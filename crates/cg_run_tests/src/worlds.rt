@@ -68,7 +68,7 @@ fn is_asked(world: &World, creator: ReplicaId, index: u64, greens: u64) -> bool 
             action.id.creator == creator
                 && action.id.index == index
                 && action.green_line == greens
-                && is_count(&action.kind)
+                && is_count(action.kind.get())
         }
         None => false,
     }

@@ -11,7 +11,7 @@ fn one_made_is_short(one: &Made)
     ensures { IsShortMade one.now }
 {
     id_is_short(one.id);
-    kind_is_short(&one.kind);
+    kind_is_short(one.kind.get());
 }
 
 fn made_is_short(made: &[Made])
