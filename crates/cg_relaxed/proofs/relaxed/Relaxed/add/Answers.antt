@@ -19,7 +19,7 @@ invariant_of-self-2 c =
     let cmds = c.in_ok-cmds.cmds.items in
     let old : RelaxedState = record { known = c.self.inside.known; sums = c.self.inside.sums.entries; writes = c.self.inside.registers.entries } in
     let new : RelaxedState = record { known = c.raise.new.self; sums = c.run_each.new.sums.entries; writes = c.run_each.new.registers.entries } in
-    let are : cmds ≡ counted a.kind = c.in_ok-cmds.ensures ∙ c.counted.ensures in
+    let are : cmds ≡ counted a.kind = c.in_ok-cmds.ensures ∙ c.counted.ensures ∙ ap counted c.get.ensures in
     let same : c.reserve.new.self.entries ≡ c.self.inside.sums.entries = search rules in
     let sums : (key : List ℕ) (p : ℕ) → sum_at c.run_each.new.sums.entries key p
     ≡ cond (eqb p a.id.creator) (sum_after (sum_at c.self.inside.sums.entries key p) key cmds) (sum_at c.self.inside.sums.entries key p) =
@@ -38,7 +38,7 @@ returns-clause-ok c =
     let cmds = c.in_ok-cmds.cmds.items in
     let old : RelaxedState = record { known = c.self.inside.known; sums = c.self.inside.sums.entries; writes = c.self.inside.registers.entries } in
     let new : RelaxedState = record { known = c.raise.new.self; sums = c.run_each.new.sums.entries; writes = c.run_each.new.registers.entries } in
-    let are : cmds ≡ counted a.kind = c.in_ok-cmds.ensures ∙ c.counted.ensures in
+    let are : cmds ≡ counted a.kind = c.in_ok-cmds.ensures ∙ c.counted.ensures ∙ ap counted c.get.ensures in
     let same : c.reserve.new.self.entries ≡ c.self.inside.sums.entries = search rules in
     let same_writes : c.reserve-2.new.self.entries ≡ c.self.inside.registers.entries = search rules in
     let sums : (key : List ℕ) (p : ℕ) → sum_at c.run_each.new.sums.entries key p
