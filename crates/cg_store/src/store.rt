@@ -182,7 +182,7 @@ impl<D: Disk> Store<D> {
         changes_are_exact();
         let alloc = core.alloc();
         match self.ready(alloc, core, &draft) {
-            Ok(due) => self.finish(alloc, draft.into_parts(), due),
+            Ok(due) => self.commit_parts(alloc, draft.into_parts(), due),
             Err(_) => {
                 draft.abandon();
                 Err(CommitErr::NoMemory(self.into_disk()))
@@ -207,7 +207,7 @@ impl<D: Disk> Store<D> {
         Ok(due)
     }
 
-    fn finish(
+    fn commit_parts(
         self,
         alloc: Global,
         parts: DraftParts,

@@ -12,8 +12,8 @@ use Rattle.cg_store.specs.declared.errors.CommitErr.TheVariants.{NoMemory}
 use Rattle.cg_store.proofs.Committing.{led_of, behind_of, whether_of, refused_ends, refused_moments}
 use Rattle.cg_store.proofs.store.Store.commit.Goals as goal
 
-pub finish-requires-clause-leads : goal.finish-requires-clause-leads
-finish-requires-clause-leads g c = λ u stands.
+pub commit_parts-requires-clause-leads : goal.commit_parts-requires-clause-leads
+commit_parts-requires-clause-leads g c = λ u stands.
     led_of c.changes_are_exact.ensures.again u c.args.self.unwritten c.args.core.now c.args.draft Left c.in-Ok.due (c.in-Ok.ensures.due u Left stands) (c.requires.recorded u Left stands)
 
 pub returns-in-Ok-clause-ends : goal.returns-in-Ok-clause-ends
@@ -25,8 +25,8 @@ returns-in-Ok-clause-ends g c = λ u state stands.
     let ready = c.in-Ok.ensures.due u state stands in
     let behind = behind_of c.changes_are_exact.ensures.again u self.unwritten c.args.core.now d state c.in-Ok.due ready (c.requires.recorded u state stands) in
     let parts = c.into_parts.result in
-    subst (λ x. Either (commits u.content (turn_with c.args.core.now state d)) (Commits view self u v x c.finish.result) (Keeps self x c.finish.result)) c.into_parts.ensures.value
-    (whether_of u.content self.unwritten c.args.core.now d state c.in-Ok.due (Commits view self u v parts c.finish.result) (Keeps self parts c.finish.result) ready (c.finish.ensures.ends u v stands behind))
+    subst (λ x. Either (commits u.content (turn_with c.args.core.now state d)) (Commits view self u v x c.commit_parts.result) (Keeps self x c.commit_parts.result)) c.into_parts.ensures.value
+    (whether_of u.content self.unwritten c.args.core.now d state c.in-Ok.due (Commits view self u v parts c.commit_parts.result) (Keeps self parts c.commit_parts.result) ready (c.commit_parts.ensures.ends u v stands behind))
 
 pub returns-in-Ok-clause-moments : goal.returns-in-Ok-clause-moments
 returns-in-Ok-clause-moments g c = λ u state stands.
@@ -35,7 +35,7 @@ returns-in-Ok-clause-moments g c = λ u state stands.
     let v = committed self.unwritten (turn_with c.args.core.now state d) u in
     let ready = c.in-Ok.ensures.due u state stands in
     let behind = behind_of c.changes_are_exact.ensures.again u self.unwritten c.args.core.now d state c.in-Ok.due ready (c.requires.recorded u state stands) in
-    c.finish.ensures.moments u v stands behind
+    c.commit_parts.ensures.moments u v stands behind
 
 pub returns-in-Err-clause-ends : goal.returns-in-Err-clause-ends
 returns-in-Err-clause-ends g c = λ u state stands.

@@ -5,7 +5,7 @@ use Rattle.cg_store.specs.Due.{IsLed, IsBehind, WhetherDue}
 use Rattle.cg_store.specs.Calls.{Commits, Keeps, IsEither}
 use Rattle.cg_store.specs.EndingLaws.{paired_moments}
 use Rattle.cg_store.proofs.Committing.{paired_writes}
-use Rattle.cg_store.proofs.store.Store.finish.Goals as goal
+use Rattle.cg_store.proofs.store.Store.commit_parts.Goals as goal
 
 pub write-requires-clause-leads : goal.write-requires-clause-leads
 write-requires-clause-leads g c = λ u stands. subst (λ o. IfSome o (IsLed u)) c.in-Some.is (c.requires.leads u stands)
