@@ -147,11 +147,11 @@ impl ExchangeStates {
         }
         let copy = s.copy(self.core.alloc())?;
         self.heard.push(copy)?;
-        self.go_on(draft)
+        self.plan_if_all_heard(draft)
     }
 
     // with the summaries of all members the plan is made; else more are waited for
-    fn go_on(self, draft: &mut Draft) -> Result<ExchangeStep, NoMemory>
+    fn plan_if_all_heard(self, draft: &mut Draft) -> Result<ExchangeStep, NoMemory>
         ensures turn { IfOk result (λ step. (state : State) →
             turn_after step draft.new ≡ with_heard (turn_with self.held state draft.old)
             self.conf self.set self.heard) }
