@@ -208,7 +208,7 @@ impl<D: Disk> Engine<D> {
         store.holds();
         let id = store.id();
         match store.commit(replica.core(), draft) {
-            Ok((store, outputs)) => Engine::go_on(store, replica, outputs, last),
+            Ok((store, outputs)) => Engine::whiten_and_save(store, replica, outputs, last),
             Err(fault) => {
                 drop(replica);
                 fallen(fault, id, last)
@@ -217,7 +217,12 @@ impl<D: Disk> Engine<D> {
     }
 
     // Behind a commit the white count rises, and a checkpoint may follow.
-    fn go_on(store: Store<D>, replica: Replica, outputs: Outputs, last: LastEvent) -> Handled<D>
+    fn whiten_and_save(
+        store: Store<D>,
+        replica: Replica,
+        outputs: Outputs,
+        last: LastEvent,
+    ) -> Handled<D>
         requires calls { (D.view store.disk).time + 6 ≤ COUNT_LIMIT }
         requires may { (w : OnDisk) → Stands store.id (D.view store.disk).reads w →
             MayGoOn outputs.written store.unwritten w replica.held }
@@ -279,13 +284,13 @@ impl<D: Disk> Engine<D> {
     {
         let (disk, id, last) = w.into_parts();
         match Store::open(alloc, disk, id) {
-            Ok((store, core)) => Engine::rise(store, core, last),
+            Ok((store, core)) => Engine::recover_replica(store, core, last),
             Err(fault) => unopened(fault, id, last),
         }
     }
 
     // The replica of an opened store.
-    fn rise(store: Store<D>, core: Core, last: LastEvent) -> Recovered<D>
+    fn recover_replica(store: Store<D>, core: Core, last: LastEvent) -> Recovered<D>
         requires { IsOpen (D.view store.disk) store core }
         ensures { Rises store core last result }
     {
@@ -293,13 +298,13 @@ impl<D: Disk> Engine<D> {
         let alloc = core.alloc();
         let more = last.count < core.green_count();
         match Replica::recovered(core) {
-            Ok((replica, draft)) => Engine::keep(alloc, store, replica, draft, last, more),
+            Ok((replica, draft)) => Engine::keep_marks(alloc, store, replica, draft, last, more),
             Err(_) => Recovered::NoMemory(Wreck::of(store.into_disk(), id, last)),
         }
     }
 
     // The red marks of the recovery are kept for the first record.
-    fn keep(
+    fn keep_marks(
         alloc: Global,
         store: Store<D>,
         replica: Replica,

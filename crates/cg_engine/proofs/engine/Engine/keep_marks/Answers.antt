@@ -1,6 +1,6 @@
 use Rattle.cg_engine.specs.Seen.{turn_of}
 use Rattle.cg_engine.proofs.Rising.{open_engine}
-use Rattle.cg_engine.proofs.engine.Engine.keep.Goals as goal
+use Rattle.cg_engine.proofs.engine.Engine.keep_marks.Goals as goal
 
 pub invariant_of-engine : goal.invariant_of-engine
 invariant_of-engine g c =

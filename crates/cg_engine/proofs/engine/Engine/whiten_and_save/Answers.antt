@@ -1,6 +1,6 @@
 use Rattle.std.proofs.Common.{sym, ◌∙◌}
 use Rattle.cg_engine.proofs.GoingOn.{line_here, may_save_at, goes_on_as}
-use Rattle.cg_engine.proofs.engine.Engine.go_on.Goals as goal
+use Rattle.cg_engine.proofs.engine.Engine.whiten_and_save.Goals as goal
 
 pub whiten-requires : goal.whiten-requires
 whiten-requires g c =

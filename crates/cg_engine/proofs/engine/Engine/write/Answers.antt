@@ -7,8 +7,8 @@ use Rattle.cg_engine.proofs.Committing.{ended_at, moments_at}
 use Rattle.cg_engine.proofs.Ending.{fallen_as, ends_with, failed, may_go_on}
 use Rattle.cg_engine.proofs.engine.Engine.write.Goals as goal
 
-pub go_on-requires-clause-may : goal.go_on-requires-clause-may
-go_on-requires-clause-may g c =
+pub whiten_and_save-requires-clause-may : goal.whiten_and_save-requires-clause-may
+whiten_and_save-requires-clause-may g c =
     let view = g.D.Disk.view in
     let store = c.args.store in
     let r = c.args.replica in
@@ -23,9 +23,9 @@ returns-in-Ok g c = λ u stands.
     let store = c.args.store in
     let r = c.args.replica in
     let d = c.args.draft in
-    ends_with view store u r d c.args.last c.requires.named c.in-Ok.store c.in-Ok.outputs c.go_on.result (g.met.D.Disk.is_view store.disk) c.holds.ensures.rest stands
+    ends_with view store u r d c.args.last c.requires.named c.in-Ok.store c.in-Ok.outputs c.whiten_and_save.result (g.met.D.Disk.is_view store.disk) c.holds.ensures.rest stands
     (commits u.content (turn_of r d)) (ended_at view store u r d c.core.result.now c.core.ensures (Ok (c.in-Ok.store, c.in-Ok.outputs)) (c.in-Ok.ensures.ends u r.state stands))
-    (moments_at view store u r d c.core.result.now c.core.ensures (Ok (c.in-Ok.store, c.in-Ok.outputs)) (c.in-Ok.ensures.moments u r.state stands)) c.go_on.ensures
+    (moments_at view store u r d c.core.result.now c.core.ensures (Ok (c.in-Ok.store, c.in-Ok.outputs)) (c.in-Ok.ensures.moments u r.state stands)) c.whiten_and_save.ensures
 
 pub returns-in-Err : goal.returns-in-Err
 returns-in-Err g c = λ u stands.
