@@ -54,7 +54,7 @@ impl Model for Running {
 }
 
 // A crash leaves these bytes of the disk of a follower.
-fn fall(disk: ModelDisk, fill: &[u8]) -> Result<FollowerState, NoMemory>
+fn crash_follower(disk: ModelDisk, fill: &[u8]) -> Result<FollowerState, NoMemory>
     requires { (left : Followed) × Stands (left_by (state_of disk) fill.now) left }
     ensures { IfOk result (λ s. (left : Followed) → Stands (left_by (state_of disk) fill.now) left →
         seen s ≡ Fallen left) }
@@ -103,7 +103,7 @@ impl Running {
         follower.begin();
         match follower.feed(list) {
             Ok(follower) => Ok(FollowerState::Up(Running { follower, fill })),
-            Err(FollowErr::Lost(disk)) => fall(disk, fill.as_slice()),
+            Err(FollowErr::Lost(disk)) => crash_follower(disk, fill.as_slice()),
             Err(FollowErr::NoMemory(_)) => Err(NoMemory),
         }
     }

@@ -13,8 +13,8 @@ use Rattle.cg_follower_list.specs.Seen.{seen}
 use Rattle.cg_follower_list.proofs.Struck.{struck-feed}
 use Rattle.cg_follower_list.proofs.running.Running.feed.Goals as goal
 
-pub fall-requires : goal.fall-requires
-fall-requires c =
+pub crash_follower-requires : goal.crash_follower-requires
+crash_follower-requires c =
     let old = c.self.inside.follower in
     let begun = c.begin.new.self in
     let disk = c.in-Err-Lost.disk in
@@ -34,5 +34,5 @@ returns-in-Err-Lost c =
     let so = struck-feed view_of old begun list disk (state_of begun.disk) (state_of disk) c.self.inside.fill c.args.self
     ends c.begin.ensures.disk c.begin.ensures.same c.self.view_is refl refl in
     let stands = subst (λ (fill : List ℕ). Stands (left_by (state_of disk) fill) so.left) (sym c.as_slice.ensures) so.stands in
-    IfOk-weaker c.fall.result (λ s. (left : Followed) → Stands (left_by (state_of disk) c.as_slice.result.now) left → seen s ≡ Fallen left)
-    (λ s. seen s ≡ after_feed list c.args.self.armed c.args.self.now) (λ s is. is so.left stands ∙ so.is) c.fall.ensures
+    IfOk-weaker c.crash_follower.result (λ s. (left : Followed) → Stands (left_by (state_of disk) c.as_slice.result.now) left → seen s ≡ Fallen left)
+    (λ s. seen s ≡ after_feed list c.args.self.armed c.args.self.now) (λ s is. is so.left stands ∙ so.is) c.crash_follower.ensures
