@@ -43,7 +43,7 @@ impl World {
         let World { state, made } = self;
         let mut going = StepInProgress::quietly(alloc, state);
         match happen(alloc, &mut going, event) {
-            Ok(()) => finish(alloc, made, going, &touched(event)),
+            Ok(()) => end_and_keep(alloc, made, going, &touched(event)),
             Err(GroupErr::Refused(reason)) => Stepped::Refused {
                 world: World {
                     state: going.into_state(),
@@ -61,13 +61,13 @@ impl World {
 }
 
 // the event ends in a world to which it leads, and nothing is new of replicas that it doesn't touch
-fn finish(alloc: Global, made: MadeActions, going: StepInProgress, touched: &IdSet) -> Stepped
+fn end_and_keep(alloc: Global, made: MadeActions, going: StepInProgress, touched: &IdSet) -> Stepped
     requires led { IsLedWith (ended going).world (made ++ newly_made (ended going)) }
     requires news { ShowsNewsOf touched.now going.world }
     ensures { IsEnd (ended going) made result }
 {
     match going.finish(touched) {
-        Ok((entry, state)) => keep(alloc, made, entry, state),
+        Ok((entry, state)) => keep_made(alloc, made, entry, state),
         Err(NoMemory) => {
             drop(made);
             Stepped::NoMemory
@@ -76,7 +76,7 @@ fn finish(alloc: Global, made: MadeActions, going: StepInProgress, touched: &IdS
 }
 
 // what its step shows as made is kept
-fn keep(alloc: Global, made: MadeActions, entry: Entry, state: Box<WorldState>) -> Stepped
+fn keep_made(alloc: Global, made: MadeActions, entry: Entry, state: Box<WorldState>) -> Stepped
     requires { IsLedWith state.value (made ++ newly_made (record { entry = entry; world = state.value })) }
     ensures { IsEnd (record { entry = entry; world = state.value }) made result }
 {

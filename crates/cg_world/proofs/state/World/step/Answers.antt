@@ -30,8 +30,8 @@ happen-requires-clause-first c =
 pub happen-requires-clause-quiet : goal.happen-requires-clause-quiet
 happen-requires-clause-quiet c = c.quietly-going.ensures ∙ ap (λ (g : StepInProgress). quietly g.world) (sym c.quietly-going.ensures)
 
-pub finish-requires-clause-led : goal.finish-requires-clause-led
-finish-requires-clause-led c =
+pub end_and_keep-requires-clause-led : goal.end_and_keep-requires-clause-led
+end_and_keep-requires-clause-led c =
     let w = c.self.inside in
     let e = c.args.event.now in
     let g = c.happen.new.going in
@@ -39,8 +39,8 @@ finish-requires-clause-led c =
     let is = subst (λ (h : StepInProgress). (first_refusal h.world e ≡ None) × (g ≡ happens h.world e)) c.quietly-going.ensures c.in-Ok.ensures in
     led-on w.state.value e g w.made c.facts_stand_beside_each_world.ensures c.made_actions_stand_in_the_book.ensures c.self.invariant stands is
 
-pub finish-requires-clause-news : goal.finish-requires-clause-news
-finish-requires-clause-news c =
+pub end_and_keep-requires-clause-news : goal.end_and_keep-requires-clause-news
+end_and_keep-requires-clause-news c =
     let w = c.self.inside in
     let e = c.args.event.now in
     let g = c.happen.new.going in
@@ -53,5 +53,5 @@ returns-in-Ok c =
     let e = c.args.event.now in
     let g = c.happen.new.going in
     let is = subst (λ (h : StepInProgress). (first_refusal h.world e ≡ None) × (g ≡ happens h.world e)) c.quietly-going.ensures c.in-Ok.ensures in
-    subst (λ (s : SoFar). Steps s e c.finish.result) c.self.view_is
-    (end-steps (record { world = c.self.inside.state.value; made = c.self.inside.made }) e g c.finish.result is c.finish.ensures)
+    subst (λ (s : SoFar). Steps s e c.end_and_keep.result) c.self.view_is
+    (end-steps (record { world = c.self.inside.state.value; made = c.self.inside.made }) e g c.end_and_keep.result is c.end_and_keep.ensures)
