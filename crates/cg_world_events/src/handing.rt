@@ -50,7 +50,7 @@ fn hand_pieces(
 {
     let chosen = choose(&mut going.state, p, joiner)?;
     match chosen {
-        Some(snapshot) => take(alloc, going, snapshot, pieces),
+        Some(snapshot) => take_pieces(alloc, going, snapshot, pieces),
         None => Ok(()),
     }
 }
@@ -104,7 +104,7 @@ fn copy_of(
 }
 
 // The next pieces are taken, or all that are left, and that is shown.
-fn take(
+fn take_pieces(
     alloc: Global,
     going: &mut StepInProgress,
     snapshot: Transfer,

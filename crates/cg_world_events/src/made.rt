@@ -42,7 +42,7 @@ impl MadeCut {
     }
 
     /// The cut, to be put back by `of`.
-    pub(crate) fn take(&mut self, alloc: Global) -> Result<Box<Cut>, NoMemory>
+    pub(crate) fn take_out(&mut self, alloc: Global) -> Result<Box<Cut>, NoMemory>
         ensures { IfOk result (λ cut. cut.value ≡ self.old) }
     {
         match self.cut.take() {

@@ -58,7 +58,7 @@ impl Node {
 
     // The wreck of a replica that is up has its crash, which leaves these bytes in places that weren't synced. It takes
     // memory for the bytes of the disk alone.
-    pub(crate) fn fall(wreck: Wreck<ModelDisk>, fill: &[u8]) -> Result<Node, NoMemory>
+    pub(crate) fn from_wreck(wreck: Wreck<ModelDisk>, fill: &[u8]) -> Result<Node, NoMemory>
         requires falls { (s : Standing) × FallsTo (⟦<ModelDisk as Disk>⟧.view) wreck fill.now s }
         requires room { (⟦<ModelDisk as Disk>⟧.view wreck.disk).time + RECOVERY_CALLS ≤ COUNT_LIMIT }
         ensures { IfOk result (λ n. (s : Standing) →

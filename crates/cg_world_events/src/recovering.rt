@@ -58,12 +58,16 @@ fn come_up(
     ensures { IfOk result (λ news. telling state.new news ≡ recover state.old p) }
 {
     match state.nodes.take(p) {
-        Some(node) => rise(alloc, state, node),
+        Some(node) => recover_node(alloc, state, node),
         None => Ok(None),
     }
 }
 
-fn rise(alloc: Global, state: &mut WorldState, node: Node) -> Result<Option<EventEffects>, NoMemory>
+fn recover_node(
+    alloc: Global,
+    state: &mut WorldState,
+    node: Node,
+) -> Result<Option<EventEffects>, NoMemory>
     requires { is_up state.old.group node.id ≡ false }
     ensures { IfOk result (λ news. (state.new ≡ returned state.old node)
         × (news ≡ (risen state.old.made node.id node.life).1)) }
@@ -131,12 +135,12 @@ fn come_up_under(
         recover_under state.old p (record { call = call; fault = StopWith fill.now })) }
 {
     match state.nodes.take(p) {
-        Some(node) => rise_under(alloc, state, node, call, fill),
+        Some(node) => recover_node_under(alloc, state, node, call, fill),
         None => Ok(None),
     }
 }
 
-fn rise_under(
+fn recover_node_under(
     alloc: Global,
     state: &mut WorldState,
     node: Node,

@@ -75,7 +75,7 @@ impl Node {
     {
         match self.into_life() {
             NodeState::Up { engine, fill } => Ok((Node::up(engine, fill), None)),
-            NodeState::Down(resting) => rise(alloc, resting, made),
+            NodeState::Down(resting) => recover_engine(alloc, resting, made),
         }
     }
 
@@ -98,7 +98,7 @@ impl Node {
                 engine,
                 fill: armed,
             } => Ok((Node::up(engine, armed), None)),
-            NodeState::Down(resting) => rise_under(alloc, resting, call, fill, made),
+            NodeState::Down(resting) => recover_engine_under(alloc, resting, call, fill, made),
         }
     }
 
@@ -157,11 +157,11 @@ fn stop(engine: Engine<ModelDisk>) -> Result<Node, NoMemory>
         return Err(NoMemory);
     }
     engine.holds();
-    Node::fall(engine.stop(), &[])
+    Node::from_wreck(engine.stop(), &[])
 }
 
 // An engine comes up from a disk that stands for a state.
-fn rise(
+fn recover_engine(
     alloc: Global,
     resting: CrashedDisk,
     made: &Cut,
@@ -180,7 +180,7 @@ fn rise(
 }
 
 // The same with a stop armed in the call of this number.
-fn rise_under(
+fn recover_engine_under(
     alloc: Global,
     resting: CrashedDisk,
     call: u64,
@@ -245,6 +245,6 @@ fn stay_down(wreck: Wreck<ModelDisk>, fill: &[u8]) -> Result<(Node, Option<Event
         drop(wreck);
         return Err(NoMemory);
     }
-    let node = Node::fall(wreck, fill)?;
+    let node = Node::from_wreck(wreck, fill)?;
     Ok((node, None))
 }

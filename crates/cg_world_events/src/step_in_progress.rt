@@ -57,7 +57,7 @@ impl Model for StepInProgress {
 }
 
 // What came of an event at a replica, in the world and in what is shown.
-fn told(
+fn tell_effects(
     state: &mut WorldState,
     showing: &mut EntryBuilder,
     news: EventEffects,
@@ -68,7 +68,7 @@ fn told(
       made = made_after state.old.made news;
     }) }
 {
-    let mut made = state.made.take(state.nodes.alloc())?;
+    let mut made = state.made.take_out(state.nodes.alloc())?;
     showing.tell(&mut state.order, &mut made, news)?;
     state.made = MadeCut::of(made);
     Ok(())
@@ -105,7 +105,7 @@ impl StepInProgress {
     pub(crate) fn tell(&mut self, news: EventEffects) -> Result<(), NoMemory>
         ensures { OnOk result (self.new ≡ tell self.old news) }
     {
-        told(&mut self.state, &mut self.showing, news)
+        tell_effects(&mut self.state, &mut self.showing, news)
     }
 
     /// A replica takes what the group hands to it, where it is up.
@@ -178,12 +178,12 @@ impl StepInProgress {
         ensures { OnOk result (self.new ≡ comes_back self.old (node, spoken)) }
     {
         match spoken {
-            Some(spoken) => self.go_on(node, spoken),
+            Some(spoken) => self.publish_output(node, spoken),
             None => self.state.take_down(node),
         }
     }
 
-    fn go_on(&mut self, node: BoxedNode, spoken: NodeOutput) -> Result<(), NoMemory>
+    fn publish_output(&mut self, node: BoxedNode, spoken: NodeOutput) -> Result<(), NoMemory>
         ensures { OnOk result (self.new ≡ comes_back self.old (node, Some spoken)) }
     {
         let p = node.id();

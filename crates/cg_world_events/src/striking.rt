@@ -53,12 +53,12 @@ fn crash(state: &mut WorldState, p: ReplicaId) -> Result<(), NoMemory>
     ensures { OnOk result (state.new ≡ stop state.old p 0 []) }
 {
     match state.take_up(p) {
-        Some(node) => fall(state, node),
+        Some(node) => crash_node(state, node),
         None => Ok(()),
     }
 }
 
-fn fall(state: &mut WorldState, node: BoxedNode) -> Result<(), NoMemory>
+fn crash_node(state: &mut WorldState, node: BoxedNode) -> Result<(), NoMemory>
     ensures { OnOk result (state.new ≡ fallen (hosted state.old (crashed node.id node.life)) node.id) }
 {
     let node = node.crash(state.alloc())?;

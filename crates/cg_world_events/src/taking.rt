@@ -79,7 +79,12 @@ impl BoxedNode {
         ensures { IfOk result (λ x. x ≡ taken self.id (Asks (kind_of request)) self.life) }
     {
         match self.into_inner().into_life() {
-            NodeState::Up { engine, fill } => take(alloc, engine, fill, Input::Request(request)),
+            NodeState::Up { engine, fill } => handle_within_limit(
+                alloc,
+                engine,
+                fill,
+                Input::Request(request),
+            ),
             NodeState::Down(resting) => {
                 drop(request);
                 stay_down(alloc, resting)
@@ -112,7 +117,7 @@ fn deliver_to(
 {
     messages_are_exact();
     match open_all(alloc, list) {
-        Ok(all) => take(alloc, engine, fill, Input::Deliver(all)),
+        Ok(all) => handle_within_limit(alloc, engine, fill, Input::Deliver(all)),
         Err(_) => {
             drop(engine);
             drop(fill);
@@ -122,7 +127,7 @@ fn deliver_to(
 }
 
 // An event comes to an engine, where there is room for its device calls and those of a recovery.
-fn take(
+fn handle_within_limit(
     alloc: Global,
     engine: Engine<ModelDisk>,
     fill: Bytes,
@@ -160,8 +165,8 @@ fn handle(
     each_event_keeps_what_holds();
     engine.holds();
     match engine.handle(input) {
-        Handled::Running { engine, outputs } => go_on(alloc, engine, fill, outputs),
-        Handled::Down(wreck) => fall(alloc, wreck, fill),
+        Handled::Running { engine, outputs } => stay_up(alloc, engine, fill, outputs),
+        Handled::Down(wreck) => end_in_crash(alloc, wreck, fill),
         Handled::NoMemory(wreck) => {
             drop(wreck);
             drop(fill);
@@ -170,8 +175,8 @@ fn handle(
     }
 }
 
-// The replica goes on behind an event, and says what came of it.
-fn go_on(
+// The replica stays up behind an event, and says what came of it.
+fn stay_up(
     alloc: Global,
     engine: Engine<ModelDisk>,
     fill: Bytes,
@@ -188,7 +193,7 @@ fn go_on(
 }
 
 // The event ended in its crash.
-fn fall(
+fn end_in_crash(
     alloc: Global,
     wreck: Wreck<ModelDisk>,
     fill: Bytes,
@@ -198,7 +203,7 @@ fn fall(
     ensures { IfOk result (λ x. (s : Standing) → FallsTo (⟦<ModelDisk as Disk>⟧.view) wreck fill s →
         x ≡ (fallen wreck s, None)) }
 {
-    let node = Node::fall(wreck, fill.as_slice())?;
+    let node = Node::from_wreck(wreck, fill.as_slice())?;
     let node = BoxedNode::new(alloc, node)?;
     Ok((node, None))
 }

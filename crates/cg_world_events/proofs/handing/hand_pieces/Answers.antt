@@ -7,8 +7,8 @@ use Rattle.cg_world_events.specs.Handing.{Chooses}
 use Rattle.cg_world_events.proofs.TransferFacts.{chosen-down, chosen-takes}
 use Rattle.cg_world_events.proofs.handing.hand_pieces.Goals as goal
 
-pub take-requires-clause-down : goal.take-requires-clause-down
-take-requires-clause-down c =
+pub take_pieces-requires-clause-down : goal.take_pieces-requires-clause-down
+take_pieces-requires-clause-down c =
     let old = c.going.inside.state.value in
     let found = subst (λ o. Chooses c.deref_mut.result.now c.choose.new.state c.args.p c.args.joiner o) c.in-Some.is c.in_ok-chosen.ensures in
     let chosen = subst (λ (w : World). Chooses w c.choose.new.state c.args.p c.args.joiner (Some c.in-Some.snapshot)) c.deref_mut.ensures.value found in
@@ -20,6 +20,6 @@ returns-in-Some c =
     let old = c.going.inside.state.value in
     let found = subst (λ o. Chooses c.deref_mut.result.now c.choose.new.state c.args.p c.args.joiner o) c.in-Some.is c.in_ok-chosen.ensures in
     let chosen = subst (λ (w : World). Chooses w c.choose.new.state c.args.p c.args.joiner (Some c.in-Some.snapshot)) c.deref_mut.ensures.value found in
-    subst (λ (x : StepInProgress). OnOk c.take.result (c.take.new.going ≡ x))
+    subst (λ (x : StepInProgress). OnOk c.take_pieces.result (c.take_pieces.new.going ≡ x))
     (chosen-takes old c.choose.new.state c.args.p c.args.joiner c.args.pieces c.in-Some.snapshot chosen
-    ∙ ap (λ (g : StepInProgress). transfer g.world c.args.p c.args.joiner c.args.pieces) c.going.view_is) c.take.ensures
+    ∙ ap (λ (g : StepInProgress). transfer g.world c.args.p c.args.joiner c.args.pieces) c.going.view_is) c.take_pieces.ensures

@@ -7,13 +7,13 @@ use Rattle.cg_world_events.specs.contracts.state.WorldState.{the_view}
 use Rattle.cg_world_events.proofs.StruckNodes.{down-outside, recover-done}
 use Rattle.cg_world_events.proofs.recovering.come_up.Goals as goal
 
-pub rise-requires : goal.rise-requires
-rise-requires c =
+pub recover_node-requires : goal.recover_node-requires
+recover_node-requires c =
     down-outside (the_view c.state.inside) c.args.p c.in-Some.node (subst IsHosted (sym c.state.view_is) c.requires.hosted) c.in-Some.ensures.taken.0
     (subst (λ w. is_some (replica_of w c.args.p) ≡ false) (sym c.state.view_is) c.requires.down)
 
 pub returns-in-Some : goal.returns-in-Some
 returns-in-Some c =
-    subst (λ w. IfOk c.rise.result (λ news. telling c.rise.new.state news ≡ recover w c.args.p)) c.state.view_is
+    subst (λ w. IfOk c.recover_node.result (λ news. telling c.recover_node.new.state news ≡ recover w c.args.p)) c.state.view_is
     (recover-done (the_view c.state.inside) c.take.new.self c.args.p c.in-Some.node (subst IsHosted (sym c.state.view_is) c.requires.hosted) c.in-Some.ensures.taken.0
-    (subst (λ w. is_some (replica_of w c.args.p) ≡ false) (sym c.state.view_is) c.requires.down) c.in-Some.ensures.taken.1 c.rise.result c.rise.new.state c.rise.ensures)
+    (subst (λ w. is_some (replica_of w c.args.p) ≡ false) (sym c.state.view_is) c.requires.down) c.in-Some.ensures.taken.1 c.recover_node.result c.recover_node.new.state c.recover_node.ensures)

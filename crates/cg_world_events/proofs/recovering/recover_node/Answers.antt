@@ -1,6 +1,6 @@
 use Rattle.std.proofs.Common.{ap, ◌∙◌, refl}
 use Rattle.cg_world_events.specs.Calls.{risen}
-use Rattle.cg_world_events.proofs.recovering.rise.Goals as goal
+use Rattle.cg_world_events.proofs.recovering.recover_node.Goals as goal
 
 pub returns : goal.returns
 returns c =

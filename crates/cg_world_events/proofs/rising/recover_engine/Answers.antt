@@ -8,7 +8,7 @@ use Rattle.cg_store.specs.Opening.{IsNoStore}
 use Rattle.cg_world_events.specs.Calls.{risen}
 use Rattle.cg_world_events.specs.SeenLaws.{down-seen}
 use Rattle.cg_world_events.proofs.ComingUp.{is_store, unarmed_behind, rises_seen}
-use Rattle.cg_world_events.proofs.rising.rise.Goals as goal
+use Rattle.cg_world_events.proofs.rising.recover_engine.Goals as goal
 
 pub returns-in-Running : goal.returns-in-Running
 returns-in-Running c =

@@ -15,7 +15,7 @@ use Rattle.cg_world_events.specs.Seen.{down_seen, FallsTo, fallen}
 use Rattle.cg_world_events.specs.SeenLaws.{down-seen}
 use Rattle.cg_world_events.proofs.ComingUp.{rises_under, falls_there, stays_under}
 use Rattle.cg_world_events.proofs.Crashing.{if_ok_then}
-use Rattle.cg_world_events.proofs.rising.rise_under.Goals as goal
+use Rattle.cg_world_events.proofs.rising.recover_engine_under.Goals as goal
 
 pub returns-in-Running : goal.returns-in-Running
 returns-in-Running c =

@@ -4,5 +4,5 @@ use Rattle.cg_world_events.proofs.striking.crash.Goals as goal
 
 pub returns-in-Some : goal.returns-in-Some
 returns-in-Some c =
-    subst (λ w. OnOk c.fall.result (c.fall.new.state ≡ w))
-    (stop-up c.args.state.now c.take_up.new.self c.args.p c.in-Some.node c.in-Some.ensures.0 c.in-Some.ensures.1 c.in-Some.ensures.2 []) c.fall.ensures
+    subst (λ w. OnOk c.crash_node.result (c.crash_node.new.state ≡ w))
+    (stop-up c.args.state.now c.take_up.new.self c.args.p c.in-Some.node c.in-Some.ensures.0 c.in-Some.ensures.1 c.in-Some.ensures.2 []) c.crash_node.ensures

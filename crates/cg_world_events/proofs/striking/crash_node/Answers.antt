@@ -3,7 +3,7 @@ use Rattle.cg_model.specs.World.{World, Node}
 use Rattle.cg_world_events.specs.Calls.{crashed}
 use Rattle.cg_world_events.specs.StepInProgress.{fallen, hosted}
 use Rattle.cg_world_events.proofs.StruckNodes.{crashed-id}
-use Rattle.cg_world_events.proofs.striking.fall.Goals as goal
+use Rattle.cg_world_events.proofs.striking.crash_node.Goals as goal
 
 pub returns : goal.returns
 returns c =

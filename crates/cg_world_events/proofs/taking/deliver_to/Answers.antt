@@ -8,8 +8,8 @@ use Rattle.cg_world_events.specs.Seen.{disk_seen}
 use Rattle.cg_world_events.proofs.Opening.{opened_is}
 use Rattle.cg_world_events.proofs.taking.deliver_to.Goals as goal
 
-pub take-requires-clause-booked : goal.take-requires-clause-booked
-take-requires-clause-booked c =
+pub handle_within_limit-requires-clause-booked : goal.handle_within_limit-requires-clause-booked
+handle_within_limit-requires-clause-booked c =
     let read = opened_is c.messages_are_exact.ensures.in_spelling c.args.list c.in-Ok.all c.in-Ok.ensures.opened c.in-Ok.ensures.said in
     (c.requires.0, subst (λ (input : Input). AreBooked c.requires.0 c.args.engine.replica.held input) (sym read) c.requires.1)
 
@@ -17,4 +17,4 @@ pub returns-in-Ok : goal.returns-in-Ok
 returns-in-Ok c =
     let read = opened_is c.messages_are_exact.ensures.in_spelling c.args.list c.in-Ok.all c.in-Ok.ensures.opened c.in-Ok.ensures.said in
     let e = c.args.engine in
-    subst (λ (input : Input). IfOk c.take.result (λ x. x ≡ taken e.store.id input (Up e.replica (disk_seen view_of e c.args.fill)))) read c.take.ensures
+    subst (λ (input : Input). IfOk c.handle_within_limit.result (λ x. x ≡ taken e.store.id input (Up e.replica (disk_seen view_of e c.args.fill)))) read c.handle_within_limit.ensures

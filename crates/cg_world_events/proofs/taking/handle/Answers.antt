@@ -8,8 +8,8 @@ use Rattle.cg_world_events.specs.Calls.{NodeOutput}
 use Rattle.cg_world_events.proofs.Events.{goes_on, falls_down, fallen_so}
 use Rattle.cg_world_events.proofs.taking.handle.Goals as goal
 
-pub fall-requires-clause-falls : goal.fall-requires-clause-falls
-fall-requires-clause-falls c =
+pub end_in_crash-requires-clause-falls : goal.end_in_crash-requires-clause-falls
+end_in_crash-requires-clause-falls c =
     let old = c.args.engine in
     let kept = c.each_event_keeps_what_holds.ensures in
     let laws = c.what_is_held_agrees.ensures in
@@ -18,8 +18,8 @@ fall-requires-clause-falls c =
     c.in-Down.wreck (c.in-Down.ensures is.standing is.stands) in
     (fell.0, fell.1)
 
-pub fall-requires-clause-room : goal.fall-requires-clause-room
-fall-requires-clause-room c =
+pub end_in_crash-requires-clause-room : goal.end_in_crash-requires-clause-room
+end_in_crash-requires-clause-room c =
     let old = c.args.engine in
     let is = c.holds.ensures.follows in
     let t = replica_step old.replica (input_of c.args.input) in
@@ -32,9 +32,9 @@ returns-in-Running c =
     let kept = c.each_event_keeps_what_holds.ensures in
     let laws = c.what_is_held_agrees.ensures in
     let is = c.holds.ensures.follows in
-    subst (λ (x : Node × Option NodeOutput). IfOk c.go_on.result (λ y. y ≡ x))
+    subst (λ (x : Node × Option NodeOutput). IfOk c.stay_up.result (λ y. y ≡ x))
     (goes_on view_of c.events_end_as_defined.ensures kept laws.counts old c.args.fill (input_of c.args.input) c.requires.booked.0 (state_of old.store.disk) refl is c.requires.booked.1
-    c.in-Running.engine c.in-Running.outputs (c.in-Running.ensures is.standing is.stands)) c.go_on.ensures
+    c.in-Running.engine c.in-Running.outputs (c.in-Running.ensures is.standing is.stands)) c.stay_up.ensures
 
 pub returns-in-Down : goal.returns-in-Down
 returns-in-Down c =
@@ -44,4 +44,4 @@ returns-in-Down c =
     let is = c.holds.ensures.follows in
     let fell = falls_down view_of c.events_end_as_defined.ensures kept laws.counts old c.args.fill (input_of c.args.input) c.requires.booked.0 (state_of old.store.disk) refl is c.requires.booked.1
     c.in-Down.wreck (c.in-Down.ensures is.standing is.stands) in
-    fallen_so view_of c.in-Down.wreck c.args.fill fell.0 fell.1 c.fall.result _ fell.2 c.fall.ensures
+    fallen_so view_of c.in-Down.wreck c.args.fill fell.0 fell.1 c.end_in_crash.result _ fell.2 c.end_in_crash.ensures

@@ -2,7 +2,7 @@ use Rattle.std.proofs.Common.{refl, ◌∙◌, ap}
 use Rattle.cg_disk.specs.Model.{view_of, state_of}
 use Rattle.cg_world_events.specs.Seen.{down_seen}
 use Rattle.cg_world_events.proofs.Falling.{falls_so}
-use Rattle.cg_world_events.proofs.node.Node.fall.Goals as goal
+use Rattle.cg_world_events.proofs.node.Node.from_wreck.Goals as goal
 
 pub returns : goal.returns
 returns c = λ u falls.
