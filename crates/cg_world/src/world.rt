@@ -66,7 +66,7 @@ fn end_and_keep(alloc: Global, made: MadeActions, going: StepInProgress, touched
     requires news { ShowsNewsOf touched.now going.world }
     ensures { IsEnd (ended going) made result }
 {
-    match going.finish(touched) {
+    match going.end_step(touched) {
         Ok((entry, state)) => keep_made(alloc, made, entry, state),
         Err(NoMemory) => {
             drop(made);

@@ -196,7 +196,7 @@ impl StepInProgress {
     /// The event ends: what it shows, with the lines that differ from the last printed ones, and the world behind it.
     /// They are looked for at these replicas alone, since nothing is new of others.
     #[tactic(auto, unfolding(cg_model::specs::Show::ended))]
-    pub fn finish(self, touched: &IdSet) -> Result<(Entry, Box<WorldState>), NoMemory>
+    pub fn end_step(self, touched: &IdSet) -> Result<(Entry, Box<WorldState>), NoMemory>
         requires { ShowsNewsOf touched.now self.world }
         ensures { IfOk result (λ x. record { entry = x.0; world = x.1.value } ≡ ended self) }
     {
