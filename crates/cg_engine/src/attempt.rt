@@ -23,7 +23,11 @@ pub(crate) enum InAttempt {
     Un(Un),
 }
 
-pub(crate) fn hear(s: InAttempt, draft: &mut Draft, d: &Delivery<DeliveredMsg>) -> Result<ConstructStep, NoMemory>
+pub(crate) fn hear(
+    s: InAttempt,
+    draft: &mut Draft,
+    d: &Delivery<DeliveredMsg>,
+) -> Result<ConstructStep, NoMemory>
     ensures turn { IfOk result (λ step. turn_after step draft.new ≡
         hear_delivery (turn_of (attempt_seen s) draft.old) d.now) }
     ensures limits { IfOk result HasLimits }

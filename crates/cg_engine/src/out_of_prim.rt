@@ -10,8 +10,8 @@ ghost use Rattle.cg_engine.specs.Seen.{outside_seen, turn_of, white_in};
 
 use cg_base::NoMemory;
 use cg_client::{Core, Draft, Request};
-use cg_exchange::{ExchangeActions, ExchangeStates, ExchangeStep, NonPrim};
 use cg_encoded::DeliveredMsg;
+use cg_exchange::{ExchangeActions, ExchangeStates, ExchangeStep, NonPrim};
 use cg_group::Delivery;
 use cg_report::StateName;
 
@@ -22,7 +22,11 @@ pub(crate) enum OutOfPrim {
     Actions(ExchangeActions),
 }
 
-pub(crate) fn hear(s: OutOfPrim, draft: &mut Draft, d: &Delivery<DeliveredMsg>) -> Result<ExchangeStep, NoMemory>
+pub(crate) fn hear(
+    s: OutOfPrim,
+    draft: &mut Draft,
+    d: &Delivery<DeliveredMsg>,
+) -> Result<ExchangeStep, NoMemory>
     ensures turn { IfOk result (λ step. turn_after step draft.new ≡
         hear_delivery (turn_of (outside_seen s) draft.old) d.now) }
     ensures record { IfOk result HasRecord }

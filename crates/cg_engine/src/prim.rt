@@ -21,7 +21,11 @@ pub(crate) enum InPrim {
     Trans(TransPrim),
 }
 
-pub(crate) fn hear(s: InPrim, draft: &mut Draft, d: &Delivery<DeliveredMsg>) -> Result<PrimStep, NoMemory>
+pub(crate) fn hear(
+    s: InPrim,
+    draft: &mut Draft,
+    d: &Delivery<DeliveredMsg>,
+) -> Result<PrimStep, NoMemory>
     ensures { IfOk result (λ step. turn_after step draft.new ≡ hear_delivery (turn_of (prim_seen s) draft.old) d.now) }
 {
     match s {

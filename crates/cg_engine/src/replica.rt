@@ -17,8 +17,8 @@ use crate::member_state::{
 use crate::out_of_prim::OutOfPrim;
 use cg_base::{NoMemory, ReplicaId, WeightSet};
 use cg_client::{Core, Draft, Request};
-use cg_exchange::NonPrim;
 use cg_encoded::DeliveredMsg;
+use cg_exchange::NonPrim;
 use cg_group::Delivery;
 use cg_report::StateName;
 use std::alloc::Global;
@@ -84,7 +84,11 @@ impl Replica {
     }
 
     /// Deliveries, in their order.
-    pub fn hear_all(self, draft: &mut Draft, list: &[Delivery<DeliveredMsg>]) -> Result<Replica, NoMemory>
+    pub fn hear_all(
+        self,
+        draft: &mut Draft,
+        list: &[Delivery<DeliveredMsg>],
+    ) -> Result<Replica, NoMemory>
         ensures { IfOk result (λ r. turn_of r draft.new ≡ fold hear_delivery (turn_of self draft.old) list.now) }
     {
         let mut replica = self;

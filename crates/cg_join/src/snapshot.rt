@@ -71,7 +71,7 @@ impl SnapshotWriter {
     pub fn holds(&self)
         ensures { length self.now.parts ≤ COUNT_LIMIT }
     {
-        let _ = &self.parts;
+        let _count = self.parts.len();
     }
 
     /// The number of pieces.

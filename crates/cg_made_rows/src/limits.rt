@@ -15,7 +15,10 @@ pub(crate) fn is_action(action: &Action) -> bool
 {
     action.id.creator.holds();
     let index = action.id.index;
-    0 < index && index < NUMBER_LIMIT && action.green_line < NUMBER_LIMIT && is_kind(action.kind.get())
+    0 < index
+        && index < NUMBER_LIMIT
+        && action.green_line < NUMBER_LIMIT
+        && is_kind(action.kind.get())
 }
 
 fn is_kind(kind: &Kind) -> bool

@@ -44,6 +44,7 @@ fn grow(
     ensures ok { OnOk result (slot < vec_len values.new) }
 {
     relaxed_values_agree();
+    let _rows = rows.len();
     while values.len() <= slot {
         values.push(Relaxed::new(alloc))?;
     }

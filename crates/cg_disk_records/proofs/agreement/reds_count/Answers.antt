@@ -18,9 +18,9 @@ returns-then-last-get c =
     let i = c.loop-a.a-index in
     let none : list_all (reds_count (drop i reds) at to) every_replica ≡ false = elim c.then-last-get.branch [
       | then-last-get-via-then-last-get w ↦
-          reds-past a at to reds i c.loop-a-test.true (sym c.a-item.is) c.get-number.ensures.range (omega (arith, w.if-last-get.true, c.get-last.ensures.value, c.get.ensures.value))
+          reds-past a at to reds i c.loop-a-test.true (sym c.a-item.is) c.holds.ensures (omega (arith, w.if-last-get.true, c.get-last.ensures.value, c.get.ensures.value))
       | then-last-get-via-else-last-get+then-index-last w ↦
-          reds-apart a at to reds i c.loop-a-test.true (sym c.a-item.is) c.get-number.ensures.range (λ e. w.if-index-last.true (e ∙ ap (λ n. n + 1) (sym c.get-last.ensures.value)))
+          reds-apart a at to reds i c.loop-a-test.true (sym c.a-item.is) c.holds.ensures (λ e. w.if-index-last.true (e ∙ ap (λ n. n + 1) (sym c.get-last.ensures.value)))
     ] in
     sym none ∙ c.loop-a.invariant
 

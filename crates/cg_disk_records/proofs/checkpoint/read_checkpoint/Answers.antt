@@ -4,7 +4,7 @@ use Rattle.cg_disk_records.proofs.StandingLaws.{checkpoint-told, checkpoint-none
 use Rattle.cg_disk_records.proofs.checkpoint.read_checkpoint.Goals as goal
 
 pub returns-in-Ok : goal.returns-in-Ok
-returns-in-Ok c = checkpoint-told c.args.id c.args.bytes.now c.in-Ok.checkpoint c.of.result c.get-number.ensures.range c.in-Ok.ensures.exact.0 c.in-Ok.ensures.read c.of.ensures
+returns-in-Ok c = checkpoint-told c.args.id c.args.bytes.now c.in-Ok.checkpoint c.of.result c.holds.ensures c.in-Ok.ensures.exact.0 c.in-Ok.ensures.read c.of.ensures
 
 pub returns-in-Some : goal.returns-in-Some
 returns-in-Some c =
