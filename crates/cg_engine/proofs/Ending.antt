@@ -27,7 +27,7 @@ use Rattle.cg_store.specs.declared.outputs.Outputs.{Outputs}
 use Rattle.cg_engine.specs.Seen.{turn_of}
 use Rattle.cg_engine.specs.Answers.{parts_of, answer_of, Leaves, EndsEvent}
 use Rattle.cg_engine.specs.Engines.{Fallen}
-use Rattle.cg_engine.specs.Ending.{MayEnd, MaySave, MayGoOn, up, wreck_of, fallen, saved, Checkpoints, Saves, GoesOn}
+use Rattle.cg_engine.specs.Ending.{MayEnd, MaySave, MayGoOn, up, wreck_of, fail_event, saved, Checkpoints, Saves, GoesOn}
 use Rattle.cg_engine.specs.declared.answers.Handled.{Handled}
 use Rattle.cg_engine.specs.declared.answers.Handled.TheVariants as handled
 use Rattle.cg_engine.specs.declared.wreck.LastEvent.{LastEvent}
@@ -39,8 +39,8 @@ pub refused_as : {D : Type 0} (disk now : D) (id own count : ℕ) (green : List 
     wreck_of disk own (record { count = count; green = [] }) ≡ w
 refused_as disk now id own count green w is here same none = (λ i. record { disk = sym here i; id = sym same i; count = count; green = sym none i }) ∙ sym is
 
-pub fallen_as : {D : Type 0} (fault : CommitErr D) (id own : ℕ) (last : LastEvent) (result : Handled D) → result ≡ fallen fault id last → id ≡ own → fallen fault own last ≡ result
-fallen_as fault id own last result is same = sym (is ∙ ap (λ n. fallen fault n last) same)
+pub fail_event_as : {D : Type 0} (fault : CommitErr D) (id own : ℕ) (last : LastEvent) (result : Handled D) → result ≡ fail_event fault id last → id ≡ own → fail_event fault own last ≡ result
+fail_event_as fault id own last result is same = sym (is ∙ ap (λ n. fail_event fault n last) same)
 
 -- ---- no call was made
 
@@ -88,32 +88,32 @@ module _ {D : Type 0} (view : D → DiskView) (k : StoreState D) (u : OnDisk) (r
   abbrev after : OnDisk
   after = committed k.unwritten turn u
 
-  fallen_leaves : (fault : CommitErr D) (id : ℕ) (written : Bool) → id ≡ k.id → Leaves view k.id last.count u turn written (fallen fault id last)
-  fallen_leaves (Lost disk) id written same = (record { id_is = same; count_is = refl }, named)
-  fallen_leaves (NoMemory disk) id written same = (record { id_is = same; count_is = refl }, inl named)
+  fail_event_leaves : (fault : CommitErr D) (id : ℕ) (written : Bool) → id ≡ k.id → Leaves view k.id last.count u turn written (fail_event fault id last)
+  fail_event_leaves (Lost disk) id written same = (record { id_is = same; count_is = refl }, named)
+  fail_event_leaves (NoMemory disk) id written same = (record { id_is = same; count_is = refl }, inl named)
 
   saved_leaves : (a : Result (StoreState D) (CommitErr D)) (o : Outputs) (id : ℕ) → id ≡ k.id → Leaves view k.id last.count u turn true (saved a (whitened r) o id last)
   saved_leaves (Ok store) o id same = refl
-  saved_leaves (Err fault) o id same = fallen_leaves fault id true same
+  saved_leaves (Err fault) o id same = fail_event_leaves fault id true same
 
   -- a commit that was not done ends the event
   pub failed : IsView (view k.disk) → IsAtRest (view k.disk) → Stands k.id (view k.disk).reads u → (fault : CommitErr D) (b : Bool) →
       Either b (Commits view k u after d (Err fault)) (Keeps k d (Err fault)) → EachMoment {T = StoreState D × Outputs} view (λ done. done.0.disk) (IsEither k.id u after) (view k.disk) (Err fault) →
-      EndsEvent view k last.count u turn b (fallen fault k.id last)
+      EndsEvent view k last.count u turn b (fail_event fault k.id last)
   failed is rest stands (Lost disk) true ends moments = record {
     ends = ends_failed view k u after d (Lost disk) ends;
-    leaves = fallen_leaves (Lost disk) k.id true refl;
+    leaves = fail_event_leaves (Lost disk) k.id true refl;
     moments = leaves_first k.id u after (checkpointed after) (view k.disk) (view disk) moments;
   }
   failed is rest stands (NoMemory disk) true ends moments = record {
     ends = ends_failed view k u after d (NoMemory disk) ends;
-    leaves = fallen_leaves (NoMemory disk) k.id true refl;
+    leaves = fail_event_leaves (NoMemory disk) k.id true refl;
     moments = leaves_first k.id u after (checkpointed after) (view k.disk) (view disk) moments;
   }
   failed is rest stands (Lost disk) false ends moments = absurd ends
   failed is rest stands (NoMemory disk) false ends moments = record {
     ends = ends;
-    leaves = fallen_leaves (NoMemory disk) k.id false refl;
+    leaves = fail_event_leaves (NoMemory disk) k.id false refl;
     moments = subst (λ (x : D). LeavesOnly (view k.disk) (view x) (λ c. Stands k.id c u)) (sym ends) (resting view k u is rest stands);
   }
 

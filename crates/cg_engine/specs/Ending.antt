@@ -41,22 +41,22 @@ wreck_of disk id last = record { disk = disk; id = id; count = last.count; green
 abbrev pub bare_wreck : {D : Type 0} → D → ℕ → Fallen D
 bare_wreck disk id = record { disk = disk; id = id; count = 0; green = [] }
 
-abbrev pub fallen : {D : Type 0} → CommitErr D → ℕ → LastEvent → Handled D
-fallen (Lost disk) id last = handled.Down (wreck_of disk id last)
-fallen (NoMemoryErr disk) id last = handled.NoMemory (wreck_of disk id last)
+abbrev pub fail_event : {D : Type 0} → CommitErr D → ℕ → LastEvent → Handled D
+fail_event (Lost disk) id last = handled.Down (wreck_of disk id last)
+fail_event (NoMemoryErr disk) id last = handled.NoMemory (wreck_of disk id last)
 
-abbrev pub unstarted : {D : Type 0} → CommitErr D → ℕ → Started D
-unstarted (Lost disk) id = started.Down (bare_wreck disk id)
-unstarted (NoMemoryErr disk) id = started.NoMemory (bare_wreck disk id)
+abbrev pub fail_start : {D : Type 0} → CommitErr D → ℕ → Started D
+fail_start (Lost disk) id = started.Down (bare_wreck disk id)
+fail_start (NoMemoryErr disk) id = started.NoMemory (bare_wreck disk id)
 
-abbrev pub unopened : {D : Type 0} → OpenErr D → ℕ → LastEvent → Recovered D
-unopened (OpenLost disk) id last = recovered.Down (wreck_of disk id last)
-unopened (OpenNotAStore disk) id last = recovered.NotAStore (wreck_of disk id last)
-unopened (OpenNoMemory disk) id last = recovered.NoMemory (wreck_of disk id last)
+abbrev pub fail_open : {D : Type 0} → OpenErr D → ℕ → LastEvent → Recovered D
+fail_open (OpenLost disk) id last = recovered.Down (wreck_of disk id last)
+fail_open (OpenNotAStore disk) id last = recovered.NotAStore (wreck_of disk id last)
+fail_open (OpenNoMemory disk) id last = recovered.NoMemory (wreck_of disk id last)
 
-abbrev pub unkept : {D : Type 0} → CommitErr D → ℕ → LastEvent → Recovered D
-unkept (Lost disk) id last = recovered.Down (wreck_of disk id last)
-unkept (NoMemoryErr disk) id last = recovered.NoMemory (wreck_of disk id last)
+abbrev pub fail_keep : {D : Type 0} → CommitErr D → ℕ → LastEvent → Recovered D
+fail_keep (Lost disk) id last = recovered.Down (wreck_of disk id last)
+fail_keep (NoMemoryErr disk) id last = recovered.NoMemory (wreck_of disk id last)
 
 -- ---- what the end of an event asks for
 
@@ -88,7 +88,7 @@ up store r = record { store = store; replica = r }
 
 abbrev pub saved : {D : Type 0} → Result (StoreState D) (CommitErr D) → Replica → Outputs → ℕ → LastEvent → Handled D
 saved (Ok store) r outputs id last = handled.Running (up store r) outputs
-saved (Err fault) r outputs id last = fallen fault id last
+saved (Err fault) r outputs id last = fail_event fault id last
 
 -- a checkpoint was made
 pub record Checkpoints {D : Type 0} (view : D →

@@ -10,7 +10,7 @@ ghost use Rattle.cg_client.specs.Turn.{Turn};
 ghost use Rattle.cg_disk_records.specs.Stored.{recovery_turn};
 ghost use Rattle.cg_engine.specs.Inputs.{input_of, HasLimits};
 ghost use Rattle.cg_engine.specs.Seen.{turn_of, has_left};
-ghost use Rattle.cg_engine.specs.Ending.{fallen, unstarted, unopened, unkept};
+ghost use Rattle.cg_engine.specs.Ending.{fail_event, fail_start, fail_open, fail_keep};
 
 use crate::wreck::LastEvent;
 use crate::{Handled, Input, Recovered, Replica, Started, Wreck};
@@ -50,8 +50,8 @@ impl<D: Disk> Model for Engine<D> {
 }
 
 // What ended a call of the store ends the event.
-fn fallen<D: Disk>(fault: CommitErr<D>, id: ReplicaId, last: LastEvent) -> Handled<D>
-    ensures { result ≡ fallen fault id last }
+fn fail_event<D: Disk>(fault: CommitErr<D>, id: ReplicaId, last: LastEvent) -> Handled<D>
+    ensures { result ≡ fail_event fault id last }
 {
     match fault {
         CommitErr::Lost(disk) => Handled::Down(Wreck::of(disk, id, last)),
@@ -60,8 +60,8 @@ fn fallen<D: Disk>(fault: CommitErr<D>, id: ReplicaId, last: LastEvent) -> Handl
 }
 
 // A new replica that couldn't be written.
-fn unstarted<D: Disk>(alloc: Global, fault: CommitErr<D>, id: ReplicaId) -> Started<D>
-    ensures { result ≡ unstarted fault id }
+fn fail_start<D: Disk>(alloc: Global, fault: CommitErr<D>, id: ReplicaId) -> Started<D>
+    ensures { result ≡ fail_start fault id }
 {
     match fault {
         CommitErr::Lost(disk) => Started::Down(Wreck::new(alloc, disk, id)),
@@ -70,8 +70,8 @@ fn unstarted<D: Disk>(alloc: Global, fault: CommitErr<D>, id: ReplicaId) -> Star
 }
 
 // A disk that couldn't be opened.
-fn unopened<D: Disk>(fault: OpenErr<D>, id: ReplicaId, last: LastEvent) -> Recovered<D>
-    ensures { result ≡ unopened fault id last }
+fn fail_open<D: Disk>(fault: OpenErr<D>, id: ReplicaId, last: LastEvent) -> Recovered<D>
+    ensures { result ≡ fail_open fault id last }
 {
     match fault {
         OpenErr::Lost(disk) => Recovered::Down(Wreck::of(disk, id, last)),
@@ -81,8 +81,8 @@ fn unopened<D: Disk>(fault: OpenErr<D>, id: ReplicaId, last: LastEvent) -> Recov
 }
 
 // The red marks of a recovery that couldn't be kept.
-fn unkept<D: Disk>(fault: CommitErr<D>, id: ReplicaId, last: LastEvent) -> Recovered<D>
-    ensures { result ≡ unkept fault id last }
+fn fail_keep<D: Disk>(fault: CommitErr<D>, id: ReplicaId, last: LastEvent) -> Recovered<D>
+    ensures { result ≡ fail_keep fault id last }
 {
     match fault {
         CommitErr::Lost(disk) => Recovered::Down(Wreck::of(disk, id, last)),
@@ -91,7 +91,7 @@ fn unkept<D: Disk>(fault: CommitErr<D>, id: ReplicaId, last: LastEvent) -> Recov
 }
 
 // The names of the last event, where there are more greens now.
-fn told(alloc: Global, last: LastEvent, more: bool) -> IdList
+fn names_to_tell(alloc: Global, last: LastEvent, more: bool) -> IdList
     ensures { result ≡ (if more then last.green else []) }
 {
     if more { last.green } else { Row::new(alloc) }
@@ -138,7 +138,7 @@ impl<D: Disk> Engine<D> {
             },
             Err(fault) => {
                 drop(replica);
-                unstarted(alloc, fault, id)
+                fail_start(alloc, fault, id)
             }
         }
     }
@@ -211,7 +211,7 @@ impl<D: Disk> Engine<D> {
             Ok((store, outputs)) => Engine::whiten_and_save(store, replica, outputs, last),
             Err(fault) => {
                 drop(replica);
-                fallen(fault, id, last)
+                fail_event(fault, id, last)
             }
         }
     }
@@ -261,7 +261,7 @@ impl<D: Disk> Engine<D> {
             Err(fault) => {
                 drop(replica);
                 drop(outputs);
-                fallen(fault, id, last)
+                fail_event(fault, id, last)
             }
         }
     }
@@ -285,7 +285,7 @@ impl<D: Disk> Engine<D> {
         let (disk, id, last) = w.into_parts();
         match Store::open(alloc, disk, id) {
             Ok((store, core)) => Engine::recover_replica(store, core, last),
-            Err(fault) => unopened(fault, id, last),
+            Err(fault) => fail_open(fault, id, last),
         }
     }
 
@@ -320,13 +320,13 @@ impl<D: Disk> Engine<D> {
         let id = store.id();
         match store.keep(draft) {
             Ok(store) => {
-                let green = told(alloc, last, more);
+                let green = names_to_tell(alloc, last, more);
                 let engine = Engine { store, replica };
                 Recovered::Running { engine, green }
             }
             Err(fault) => {
                 drop(replica);
-                unkept(fault, id, last)
+                fail_keep(fault, id, last)
             }
         }
     }

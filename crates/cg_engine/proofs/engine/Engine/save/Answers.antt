@@ -1,7 +1,7 @@
 use Rattle.std.proofs.Common.{Ok, Err, sym, ◌∙◌, ap, subst}
 use Rattle.cg_disk_records.specs.Stored.{stored_of}
 use Rattle.cg_disk_records.specs.Agreeing.{Agrees}
-use Rattle.cg_engine.specs.Ending.{fallen}
+use Rattle.cg_engine.specs.Ending.{fail_event}
 use Rattle.cg_engine.proofs.GoingOn.{engine_here, engine_behind, saved_as}
 use Rattle.cg_engine.proofs.engine.Engine.save.Goals as goal
 
@@ -28,6 +28,6 @@ returns-in-Ok g c = λ w stands.
 
 pub returns-in-Err : goal.returns-in-Err
 returns-in-Err g c = λ w stands.
-    saved_as g.D.Disk.view c.args.store w c.args.replica c.args.outputs c.args.last c.fallen.result (Err c.in-Err.fault) (sym (c.is_long.ensures w stands) ∙ c.if-not-is_long.false)
+    saved_as g.D.Disk.view c.args.store w c.args.replica c.args.outputs c.args.last c.fail_event.result (Err c.in-Err.fault) (sym (c.is_long.ensures w stands) ∙ c.if-not-is_long.false)
     (c.in-Err.ensures.ends w stands) (c.in-Err.ensures.moments w stands)
-    (c.fallen.ensures ∙ ap (λ id. fallen c.in-Err.fault id c.args.last) c.id-id.ensures)
+    (c.fail_event.ensures ∙ ap (λ id. fail_event c.in-Err.fault id c.args.last) c.id-id.ensures)

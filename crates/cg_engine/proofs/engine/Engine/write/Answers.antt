@@ -4,7 +4,7 @@ use Rattle.cg_engine.specs.Seen.{turn_of}
 use Rattle.cg_engine.specs.Answers.{EndsEvent}
 use Rattle.cg_engine.specs.declared.answers.Handled.{Handled}
 use Rattle.cg_engine.proofs.Committing.{ended_at, moments_at}
-use Rattle.cg_engine.proofs.Ending.{fallen_as, ends_with, failed, may_go_on}
+use Rattle.cg_engine.proofs.Ending.{fail_event_as, ends_with, failed, may_go_on}
 use Rattle.cg_engine.proofs.engine.Engine.write.Goals as goal
 
 pub whiten_and_save-requires-clause-may : goal.whiten_and_save-requires-clause-may
@@ -34,7 +34,7 @@ returns-in-Err g c = λ u stands.
     let r = c.args.replica in
     let d = c.args.draft in
     let t = turn_of r d in
-    subst (λ (x : Handled _). EndsEvent view store c.args.last.count u t (commits u.content t) x) (fallen_as c.in-Err.fault c.id-id.result store.id c.args.last c.fallen.result c.fallen.ensures c.id-id.ensures)
+    subst (λ (x : Handled _). EndsEvent view store c.args.last.count u t (commits u.content t) x) (fail_event_as c.in-Err.fault c.id-id.result store.id c.args.last c.fail_event.result c.fail_event.ensures c.id-id.ensures)
     (failed view store u r d c.args.last c.requires.named (g.met.D.Disk.is_view store.disk) c.holds.ensures.rest stands c.in-Err.fault (commits u.content (turn_of r d))
     (ended_at view store u r d c.core.result.now c.core.ensures (Err c.in-Err.fault) (c.in-Err.ensures.ends u r.state stands))
     (moments_at view store u r d c.core.result.now c.core.ensures (Err c.in-Err.fault) (c.in-Err.ensures.moments u r.state stands)))
