@@ -7,6 +7,7 @@ use Rattle.std.proofs.lemmas.List.{append_assoc, map-append}
 use Rattle.std.proofs.lemmas.List.Elements.{filter_map-append}
 use Rattle.cg_base.specs.Cuts.{index_in}
 use Rattle.cg_base.specs.Sets.{has}
+use Rattle.cg_base.specs.FindLaws.{found_passes}
 use Rattle.cg_action.specs.declared.action.Action.{Action}
 use Rattle.cg_action.specs.declared.action.Kind.{Kind}
 use Rattle.cg_knowledge.specs.Summaries.{remaining}
@@ -28,7 +29,6 @@ use Rattle.cg_model.specs.Small.{Asks, Settles, small_step, turning, turning_as,
 use Rattle.cg_agree_lemmas.specs.ActsSaid.{handed-heard}
 use Rattle.cg_agree_lemmas.specs.ActsWay.{later_acts, said-split, way-later, row-both, created-count, drop-behind}
 use Rattle.cg_agree_lemmas.specs.CreatesTalk.{CreatesAt, can, turns, fits}
-use Rattle.cg_agree_lemmas.specs.HandSays.{find-holds}
 use Rattle.cg_agree_lemmas.specs.NumbersSame.{AreInRow, IsNumberedAs, numbered-itself}
 use Rattle.cg_agree.proofs.TalkAlone.{replica-set}
 use Rattle.cg_agree_lemmas.specs.TalkKept.{said-own, handed-own}
@@ -296,7 +296,7 @@ both-kept c p part sound mode cores old each makes = at (node_of c.world p) refl
 
   at : (o : Option Node) → node_of c.world p ≡ o → BothKept (option_map_or (λ s. turning_as c p part s.life) o c)
   at None e = record { content = old.content; acts = old.acts_numbered }
-  at (Some s) e = life s s.life refl (eqb-true s.id p (find-holds (λ (s : Node). s.id == p) c.world.nodes s e)) e
+  at (Some s) e = life s s.life refl (eqb-true s.id p (found_passes (λ (s : Node). s.id == p) c.world.nodes s e)) e
 
 pub talk-settles : (c : Chronicle) (p : ℕ) → PhaseSound c → ((q : ℕ) → IfSome (replica_of c.world q) (IsModeData c q)) → OfCores c (IsCore c) → TalkFacts c → TalkFacts (small_step c (Settles p))
 unfolding small_step

@@ -7,6 +7,8 @@ use Rattle.cg_base.specs.declared.weighted.Weighted.{Weighted}
 use Rattle.cg_base.specs.Text.{is_nil}
 use Rattle.cg_base.specs.Weights.{ids}
 use Rattle.cg_base.specs.Ids.{same_id}
+use Rattle.cg_base.specs.OptionLaws.{is_some_false}
+use Rattle.cg_base.specs.FindLaws.{found_before}
 use Rattle.cg_action.specs.declared.action.Action.{Action}
 use Rattle.cg_knowledge.specs.declared.summary.Summary.{Summary}
 use Rattle.cg_action.specs.declared.action.Kind.{Kind}
@@ -70,19 +72,11 @@ use Rattle.cg_agree_lemmas.specs.TurnParts.{never-both, settle-quiet, request-qu
 abbrev greens-in : Option Past → List Action
 greens-in o = option_map_or (λ x. x.greens) o []
 
--- what is found in a list is found where it goes on
-found-more : (t : Action → Bool) (book more : List Action) (x : Action) → find t book ≡ Some x → find t (book ++ more) ≡ Some x
-found-more t [] more x e = absurd (let clash : None ≡ Some x = e in cc)
-found-more t (y ∷ book) more x e = at (t y) e (λ rest. found-more t book more x rest) where
-  at : (b : Bool) → cond b (Some y) (find t book) ≡ Some x → (find t book ≡ Some x → find t (book ++ more) ≡ Some x) → cond b (Some y) (find t (book ++ more)) ≡ Some x
-  at true e rest = e
-  at false e rest = rest e
-
 -- the actions that are booked stay so
 pub more-booked : (c d : Chronicle) (more : List Action) → d.book ≡ c.book ++ more → (xs : List Action) → AreBooked c xs → AreBooked d xs
 more-booked c d more is [] are = tt
 more-booked c d more is (x ∷ xs) are =
-    (ap (find (λ (a : Action). same_id a.id x.id)) is ∙ found-more (λ (a : Action). same_id a.id x.id) c.book more x are.0, more-booked c d more is xs are.1)
+    (ap (find (λ (a : Action). same_id a.id x.id)) is ∙ found_before (λ (a : Action). same_id a.id x.id) c.book more x are.0, more-booked c d more is xs are.1)
 
 installed-not : (state : State) → is_primary state ≡ true → is_attempting state ≡ false
 installed-not state primary = false_from_ne_true (is_attempting state) (λ attempting. never-both state attempting primary)
@@ -260,10 +254,6 @@ module _ (c : Chronicle) (i : Invariant c) where
     at None = old
     at (Some r) = λ q. list-same c (copy_as c p joiner r) q (keeps-refl c.attempts) refl refl refl (old q)
 
-  none-of : (o : Option Past) → is_some o ≡ false → o ≡ None
-  none-of None e = refl
-  none-of (Some x) e = absurd (let clash : true ≡ false = e in cc)
-
   joins-list : (joiner : ℕ) → may_make c (Joins joiner) ≡ true → AttemptList (small_step c (Joins joiner))
   unfolding may_make small_step
   joins-list joiner may =
@@ -271,7 +261,7 @@ module _ (c : Chronicle) (i : Invariant c) where
       let r = joiner_replica joiner one.snapshot.content in
       let life : NodeState = Up r (new_disk r.held) in
       let begun = new_past (copied_for c joiner) joiner in
-      let absent : past_of c joiner ≡ None = none-of (past_of c joiner) (pasts joiner ∙ one.fresh) in
+      let absent : past_of c joiner ≡ None = is_some_false (past_of c joiner) (pasts joiner ∙ one.fresh) in
       let d = join_with c joiner one.snapshot.content in
       subst (λ (o : Option TransferState). AttemptList (option_map_or (λ s. join_with c joiner s.content) o c)) (sym one.there)
       (one-list c d joiner Alone 0 true

@@ -6,6 +6,7 @@ use Rattle.std.proofs.lemmas.Bool.{cond-true, and_parts}
 use Rattle.std.proofs.lemmas.List.Elements.{filter_map-append}
 use Rattle.cg_base.specs.Sets.{has}
 use Rattle.cg_base.specs.Lists.{at_place}
+use Rattle.cg_base.specs.FindLaws.{found_passes}
 use Rattle.cg_action.specs.declared.action.Action.{Action}
 use Rattle.cg_knowledge.specs.declared.summary.Summary.{Summary}
 use Rattle.cg_knowledge.specs.Summaries.{senders, gone, remaining}
@@ -33,7 +34,7 @@ use Rattle.cg_agree_lemmas.specs.CoresKept.{greens-turn, past-here}
 use Rattle.cg_agree_lemmas.specs.OneselfWorld.{HavePasts}
 use Rattle.cg_agree_lemmas.specs.ChronicleFacts.{node_of-set}
 use Rattle.cg_model.specs.Attempts.{held_in}
-use Rattle.cg_agree_lemmas.specs.HandSays.{find-holds, remains-unless_gone}
+use Rattle.cg_agree_lemmas.specs.HandSays.{remains-unless_gone}
 use Rattle.cg_agree_lemmas.specs.EndCases.{take-short}
 use Rattle.cg_agree_lemmas.specs.ConfSound.{by_all}
 use Rattle.cg_agree_lemmas.specs.TalkEarly.{all-member}
@@ -162,7 +163,7 @@ module _ (c : Chronicle) (i : Invariant c) (p conf : ℕ) (r : Replica) (regular
       index = data_of.1;
       own = data_of.2;
       shape = shape;
-      conf_is = eqb-true a.conf conf (find-holds (λ (a : Attempt). a.conf == conf) c.attempts a e);
+      conf_is = eqb-true a.conf conf (found_passes (λ (a : Attempt). a.conf == conf) c.attempts a e);
       member = ap (λ l. has l p) shape.parts.set ∙ remains;
     }
 

@@ -4,7 +4,9 @@ use Rattle.std.specs.Prelude.{◌==◌}
 use Rattle.std.specs.Option.{option_map_or}
 use Rattle.std.specs.List.{list_any}
 use Rattle.std.proofs.lemmas.Bool.{cases_Bool, cond_both, cond-true, cond-false, false_from_ne_true}
+use Rattle.std.proofs.lemmas.Option.{same_Some}
 use Rattle.cg_base.specs.Sets.{has}
+use Rattle.cg_base.specs.FindLaws.{found_passes}
 use Rattle.cg_action.specs.declared.action.Action.{Action}
 use Rattle.cg_knowledge.specs.declared.summary.Summary.{Summary}
 use Rattle.cg_group.specs.State.{phase_of}
@@ -19,7 +21,6 @@ use Rattle.cg_model.specs.Facts.{Invariant}
 use Rattle.cg_model.specs.Small.{Small, small_step, with_leaver, with_entrant, with_installer, opened_by}
 use Rattle.cg_model.specs.Smalls.{may_make}
 use Rattle.cg_agree_lemmas.specs.Keyed.{found-changed}
-use Rattle.cg_agree_lemmas.specs.HandSays.{find-holds}
 use Rattle.cg_agree_lemmas.specs.SameAttempt.{SameAttempt, same-refl}
 use Rattle.cg_agree_lemmas.specs.ReachSteps.{goes_on-kept}
 use Rattle.cg_agree.proofs.FixedKept.{receipts_fixed-kept}
@@ -49,11 +50,8 @@ pub data Came (c d : Chronicle) (conf : ℕ) (b : Attempt) : Type 0 where
   WasMade : (none : attempt_of c conf ≡ None) (p : ℕ) (heard : List Summary) (r new : Replica) (begins : Begins c p conf heard r new) (greens : List Action)
       (now : b ≡ with_entrant new.held.id (new_attempt greens new.held (new_record conf heard r.held.id))) (moved : replica_of d.world p ≡ Some new) (handed : IsHanded c d p greens) → Came c d conf b
 
-pub some-is : {X : Type 0} (x y : X) → Some x ≡ Some y → x ≡ y
-some-is x y e = ap (λ o. option_map_or (λ z. z) o x) e
-
 pub ins-conf : (c : Chronicle) (p : ℕ) (r : Replica) (ins : Installing c p r) → ins.a.conf ≡ ins.conf
-ins-conf c p r ins = eqb-true ins.a.conf ins.conf (find-holds (λ (a : Attempt). a.conf == ins.conf) c.attempts ins.a ins.found)
+ins-conf c p r ins = eqb-true ins.a.conf ins.conf (found_passes (λ (a : Attempt). a.conf == ins.conf) c.attempts ins.a ins.found)
 
 pub came : (c d : Chronicle) (conf : ℕ) (b : Attempt) → AttemptStep c d → attempt_of d conf ≡ Some b → Came c d conf b
 came c d conf b (Same attempts levels) e = Stayed (sym (ap (λ xs. at_conf xs conf) attempts) ∙ e)
@@ -66,7 +64,7 @@ came c d conf b (Goes p n attempts levels low) e =
       at None is (inl here) e = absurd (let clash : None ≡ Some b = sym (cond-true (conf == conf_at (phase_of c.world.group p)) (option_map (with_leaver p n) (attempt_of c conf)) (attempt_of c conf) here ∙ ap (option_map (with_leaver p n)) is) ∙ e in cc)
       at (Some a) is (inl here) e =
           let now : Some (with_leaver p n a) ≡ Some b = sym (cond-true (conf == conf_at (phase_of c.world.group p)) (option_map (with_leaver p n) (attempt_of c conf)) (attempt_of c conf) here ∙ ap (option_map (with_leaver p n)) is) ∙ e in
-          WasLeft a is p n (eqb-true conf (conf_at (phase_of c.world.group p)) here) (sym (some-is (with_leaver p n a) b now)) low
+          WasLeft a is p n (eqb-true conf (conf_at (phase_of c.world.group p)) here) (sym (same_Some (with_leaver p n a) b now)) low
 came c d conf b (Begun p k heard r new end id begun up greens attempts levels beside moved handed) e =
     let v = new_record k heard r.held.id in
     let entered = entered-now c.attempts greens new.held v in
@@ -76,9 +74,9 @@ came c d conf b (Begun p k heard r new end id begun up greens attempts levels be
           let same : conf ≡ k = eqb-true conf k here in
           let now : Some (with_entrant new.held.id entered.first) ≡ Some b = sym (ap (λ xs. at_conf xs conf) attempts ∙ entered.now conf ∙ cond-true (conf == k) (Some (with_entrant new.held.id entered.first)) (at_conf c.attempts conf) here) ∙ e in
           elim entered.whose [
-            | inl found ↦ WasEntered entered.first (ap (at_conf c.attempts) same ∙ found) p heard r new (begins-at same) (sym (some-is (with_entrant new.held.id entered.first) b now)) moved
+            | inl found ↦ WasEntered entered.first (ap (at_conf c.attempts) same ∙ found) p heard r new (begins-at same) (sym (same_Some (with_entrant new.held.id entered.first) b now)) moved
             | inr made ↦ WasMade (ap (at_conf c.attempts) same ∙ made.0) p heard r new (begins-at same) greens
-                (sym (some-is (with_entrant new.held.id entered.first) b now) ∙ ap (with_entrant new.held.id) made.1 ∙ ap (λ n. with_entrant new.held.id (new_attempt greens new.held (new_record n heard r.held.id))) (sym same)) moved handed
+                (sym (same_Some (with_entrant new.held.id entered.first) b now) ∙ ap (with_entrant new.held.id) made.1 ∙ ap (λ n. with_entrant new.held.id (new_attempt greens new.held (new_record n heard r.held.id))) (sym same)) moved handed
           ]
     ]
   where
@@ -93,7 +91,7 @@ came c d conf b (Installed p r new ins done attempts levels core moved) e =
           let same : conf ≡ ins.conf = eqb-true conf ins.a.conf here ∙ ins-conf c p r ins in
           let now : Some (with_installer p ins.a) ≡ Some b =
           sym (found ∙ cond-true (conf == ins.a.conf) (option_map (with_installer p) (at_conf c.attempts conf)) (at_conf c.attempts conf) here ∙ ap (option_map (with_installer p)) (ap (at_conf c.attempts) same ∙ ins.found)) ∙ e in
-          WasInstalled p r new ins done same (sym (some-is (with_installer p ins.a) b now)) levels core moved
+          WasInstalled p r new ins done same (sym (same_Some (with_installer p ins.a) b now)) levels core moved
     ]
 
 -- ---- what is over stays over
@@ -111,12 +109,12 @@ dead-kept c s i may conf a b found now dead = at (came c (small_step c s) conf b
   said = said-attempt c conf a i found
 
   same : (x : Attempt) → attempt_of c conf ≡ Some x → a ≡ x
-  same x e = some-is a x (sym found ∙ e)
+  same x e = same_Some a x (sym found ∙ e)
 
   still : SameAttempt a b → is_installed b ≡ is_installed a → is_dead (small_step c s) b ≡ true
   still same e =
       dead-still c (small_step c s) conf (goes_on-kept conf c s i.net.phase_sound i.net.receipts_inside may said) (receipts_fixed-kept c s i.net.hosted may (group-of c i)) i.net.receipts_inside said
-      a b same (eqb-true a.conf conf (find-holds (λ (a : Attempt). a.conf == conf) c.attempts a found)) (e ∙ dead-none c a dead) dead
+      a b same (eqb-true a.conf conf (found_passes (λ (a : Attempt). a.conf == conf) c.attempts a found)) (e ∙ dead-none c a dead) dead
 
   at : Came c (small_step c s) conf b → is_dead (small_step c s) b ≡ true
   at (Stayed e) = still (subst (SameAttempt a) (same b e) (same-refl a)) (ap is_installed (sym (same b e)))

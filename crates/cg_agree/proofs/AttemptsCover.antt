@@ -4,6 +4,7 @@ use Rattle.std.specs.Prelude.{◌==◌, option_and_then}
 use Rattle.std.specs.Option.{option_map_or}
 use Rattle.std.proofs.lemmas.Bool.{cases_eq}
 use Rattle.std.proofs.lemmas.List.{map-append}
+use Rattle.cg_base.specs.FindLaws.{found_passes}
 use Rattle.cg_action.specs.declared.action.Action.{Action}
 use Rattle.cg_queue.specs.Queue.{names_of}
 use Rattle.cg_knowledge.specs.declared.summary.Summary.{Summary}
@@ -19,7 +20,6 @@ use Rattle.cg_agree.proofs.ClearedDead.{IsToldIn, each-told}
 use Rattle.cg_agree.proofs.CoversStay.{start-covers}
 use Rattle.cg_agree.proofs.EndReached.{best-of}
 use Rattle.cg_agree.proofs.EndShown.{ToldCovers, Leads, quorum-shows}
-use Rattle.cg_agree_lemmas.specs.HandSays.{find-holds}
 use Rattle.cg_agree.proofs.NewestLevel.{shape-of}
 use Rattle.cg_agree.proofs.ToldLine.{Behind}
 
@@ -42,7 +42,7 @@ attempts-cover c f covered conf = at (attempt_of c conf) refl where
   some a found from above =
       let shape = shape-of c f conf a found in
       let heard = (whole_talk c conf).heard in
-      let at : a.conf ≡ conf = eqb-true a.conf conf (find-holds (λ (a : Attempt). a.conf == conf) c.attempts a found) in
+      let at : a.conf ≡ conf = eqb-true a.conf conf (found_passes (λ (a : Attempt). a.conf == conf) c.attempts a found) in
       let are = f.talk.heard_is_told conf in
       let lead = lead-of c conf heard (λ best. a.greens ≡ best.greens) are (subst (λ k. IsSomeWith (best_told c k heard) (λ best. a.greens ≡ best.greens)) at shape.parts.greens) in
       let e : names_of (a.greens ++ a.yellow) ≡ names_of lead.0.best.greens ++ (common_yellow heard).list =

@@ -6,6 +6,8 @@ use Rattle.std.specs.Option.{option_map_or}
 use Rattle.std.proofs.lemmas.Bool.{cases_Bool, cond_both, cond-true, cond-false, or_cases, and_parts, ne_eqb}
 use Rattle.cg_base.specs.Sets.{has}
 use Rattle.cg_base.specs.SetLaws.{has-with_member}
+use Rattle.cg_base.specs.ListLaws.{is_nil-none}
+use Rattle.cg_base.specs.FindLaws.{found_passes}
 use Rattle.cg_action.specs.declared.action.Action.{Action}
 use Rattle.cg_records.specs.declared.primary.Primary.{Primary}
 use Rattle.cg_records.specs.declared.vulnerable.Vulnerable.{Vulnerable}
@@ -33,7 +35,6 @@ use Rattle.cg_model.specs.FactsAttempts.{IsWitnessed, AreWitnessed, BitsWitness}
 use Rattle.cg_model.specs.Facts.{Invariant}
 use Rattle.cg_model.specs.Small.{Small, Starts, Makes, Enters, Orders, Receives, Hands, Leaves, Asks, Settles, Commits, Crashes, Recovers, Copies, Joins, newly_green, with_leaver, coming, take_newest, take_next, take_parting, take_request, newest_conf, small_step}
 use Rattle.cg_model.specs.Smalls.{may_make}
-use Rattle.cg_agree_lemmas.specs.HandSays.{find-holds}
 use Rattle.cg_agree_lemmas.specs.EndCovers.{OfEach}
 use Rattle.cg_agree_lemmas.specs.EndCases.{has_bit}
 use Rattle.cg_agree_lemmas.specs.EndQuorum.{both-each}
@@ -51,7 +52,7 @@ use Rattle.cg_agree.proofs.AttemptSteps.{group-of, attempt-step}
 use Rattle.cg_agree.proofs.DeadKept.{said-attempt}
 use Rattle.cg_agree.proofs.AttemptsCame.{Came, Stayed, WasLeft, WasEntered, WasInstalled, WasMade, came}
 use Rattle.cg_agree.proofs.InstalledIndexKept.{same-installed, installed_index-kept}
-use Rattle.cg_agree.proofs.OutStays.{out-stays, said-number, unsaid}
+use Rattle.cg_agree.proofs.OutStays.{out-stays, said-number}
 use Rattle.cg_agree_lemmas.specs.EntryGreens.{entry-greens, nothing-new}
 use Rattle.cg_agree.proofs.PastKept.{EntersNow, enters-now, entry_turn, entry_told, enters-is, told_in-enters}
 use Rattle.cg_agree_lemmas.specs.ToldKept.{IsUntold, told-same, told_in-same}
@@ -87,7 +88,7 @@ module _ (c : Chronicle) (s : Small) (i : Invariant c) (may : may_make c s ≡ t
       said = said-attempt c conf a i found
 
       at_conf : a.conf ≡ conf
-      at_conf = eqb-true a.conf conf (find-holds (λ (a : Attempt). a.conf == conf) c.attempts a found)
+      at_conf = eqb-true a.conf conf (found_passes (λ (a : Attempt). a.conf == conf) c.attempts a found)
 
       out : is_in c conf q ≡ false
       out = ap (λ k. is_in c k q) (sym at_conf) ∙ is.out
@@ -305,9 +306,9 @@ module _ (c : Chronicle) (p : ℕ) (i : Invariant c) (may : may_make c (Enters p
           let grown = (attempts-grow c (Enters p)).still v.attempt a found in
           let index = installed_index-kept c (Enters p) i may tt in
           let apart : (newest_conf c.world.group == v.attempt) ≡ false = ne_eqb (newest_conf c.world.group) v.attempt (λ same.
-          unsaid (ordered_in c (newest_conf c.world.group)) now.may.unsaid (subst (λ k. 0 < length (ordered_in c k)) (sym same) (said-attempt c v.attempt a i found))) in
+          is_nil-none (ordered_in c (newest_conf c.world.group)) now.may.unsaid (subst (λ k. 0 < length (ordered_in c k)) (sym same) (said-attempt c v.attempt a i found))) in
           let step = enters-step c p i.net.phase_sound now.may.comes in
-          let named : grown.now.conf ≡ v.attempt = grown.grown.same.conf ∙ eqb-true a.conf v.attempt (find-holds (λ (a : Attempt). a.conf == v.attempt) c.attempts a found) in
+          let named : grown.now.conf ≡ v.attempt = grown.grown.same.conf ∙ eqb-true a.conf v.attempt (found_passes (λ (a : Attempt). a.conf == v.attempt) c.attempts a found) in
           let counted = subst (λ (o : Option Attempt). IfSome o (λ a. left_count a p ≤ length (greens_of d p))) grown.found (index.count v.attempt p) in
           let one = subst (λ (o : Option Attempt). IfSome o (λ a. IfSome (core_of d p) (λ h. has_installed a p ≡ true → a.from < h.prim.index))) grown.found (index.index v.attempt p) in
           let two : has_installed grown.now p ≡ true → grown.now.from < comer.held.prim.index = subst (λ (o : Option Held). IfSome o (λ h. has_installed grown.now p ≡ true → grown.now.from < h.prim.index)) node-now one in

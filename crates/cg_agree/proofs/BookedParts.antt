@@ -3,6 +3,7 @@ use Rattle.std.proofs.Common.{◌≡◌, ℕ, suc, zero, Bool, true, false, cond
 use Rattle.std.specs.Prelude.{◌==◌, nat_le}
 use Rattle.std.specs.Option.{option_map_or, option_to_list}
 use Rattle.std.proofs.lemmas.Bool.{cond_both}
+use Rattle.std.proofs.lemmas.Option.{same_Some}
 use Rattle.cg_base.specs.declared.action_id.ActionId.{ActionId}
 use Rattle.cg_base.specs.Cuts.{index_in}
 use Rattle.cg_base.specs.Ids.{has_name, same_id, id_before}
@@ -40,7 +41,6 @@ use Rattle.cg_agree.proofs.ExchangeBehind.{message-now}
 use Rattle.cg_agree.proofs.ExchangeThere.{core}
 use Rattle.cg_agree_lemmas.specs.HandsNow.{HandsNow, new, running-now}
 use Rattle.cg_agree_lemmas.specs.MessageThere.{booked-at}
-use Rattle.cg_agree.proofs.AttemptsCame.{some-is}
 
 -- ---- actions of names
 
@@ -51,7 +51,7 @@ same-booked c [] (y ∷ ys) one two same = absurd (let clash : [] ≡ y.id ∷ n
 same-booked c (x ∷ xs) [] one two same = absurd (let clash : x.id ∷ names_of xs ≡ [] = same in cc)
 same-booked c (x ∷ xs) (y ∷ ys) one two same =
     let id : x.id ≡ y.id = ap (first x.id) same in
-    ap₂ (λ z zs. z ∷ zs) (some-is x y (sym one.0 ∙ ap (booked c) id ∙ two.0)) (same-booked c xs ys one.1 two.1 (ap (drop 1) same)) where
+    ap₂ (λ z zs. z ∷ zs) (same_Some x y (sym one.0 ∙ ap (booked c) id ∙ two.0)) (same-booked c xs ys one.1 two.1 (ap (drop 1) same)) where
       first : ActionId → List ActionId → ActionId
       first d [] = d
       first d (z ∷ zs) = z
@@ -81,7 +81,7 @@ booked-found : (c : Chronicle) (t : Action → Bool) (xs : List Action) (a : Act
 booked-found c t [] a are e = absurd (let clash : None ≡ Some a = e in cc)
 booked-found c t (x ∷ xs) a are e = at (t x) e (λ rest. booked-found c t xs a are.1 rest) where
   at : (b : Bool) → cond b (Some x) (find t xs) ≡ Some a → (find t xs ≡ Some a → booked c a.id ≡ Some a) → booked c a.id ≡ Some a
-  at true e rest = subst (λ (y : Action). booked c y.id ≡ Some y) (some-is x a e) are.0
+  at true e rest = subst (λ (y : Action). booked c y.id ≡ Some y) (same_Some x a e) are.0
   at false e rest = rest e
 
 booked-named : (c : Chronicle) (q : QueueView) (ids : List ActionId) → AreBooked c (q.greens ++ q.reds) → AreBooked c (actions_named q ids)

@@ -4,6 +4,7 @@ use Rattle.std.specs.Prelude.{◌==◌, nat_lt}
 use Rattle.std.specs.List.{list_any}
 use Rattle.std.proofs.lemmas.Bool.{and_parts, and_from, or_cases, or_left, or_right, false_from_ne_true, le-leb, leb-true}
 use Rattle.cg_base.specs.Sets.{has}
+use Rattle.cg_base.specs.FindLaws.{found_passes}
 use Rattle.cg_records.specs.declared.vulnerable.Vulnerable.{Vulnerable}
 use Rattle.cg_knowledge.specs.declared.summary.Summary.{Summary}
 use Rattle.cg_knowledge.specs.Primary.{newest_index, known_primary}
@@ -18,7 +19,6 @@ use Rattle.cg_model.specs.Levels.{is_out_lacking, is_installed, is_live, is_dead
 use Rattle.cg_model.specs.FactsTalk.{AreTold}
 use Rattle.cg_model.specs.FactsAttempts.{IsAttempt, IsWitnessed, AreWitnessed, is_without}
 use Rattle.cg_model.specs.Facts.{Invariant}
-use Rattle.cg_agree_lemmas.specs.HandSays.{find-holds}
 use Rattle.cg_agree_lemmas.specs.ReachFacts.{all-at}
 use Rattle.cg_agree_lemmas.specs.ReachWorld.{when-is}
 use Rattle.cg_agree_lemmas.specs.EndCovers.{OfEach}
@@ -38,7 +38,7 @@ pub each-told : (c : Chronicle) (conf : ℕ) (heard : List Summary) → AreTold 
 each-told c conf heard told = told-each c conf (IsToldIn c conf) one heard told where
   one : (q : ℕ) (t : Told) → told_in c conf q ≡ Some t → IsToldIn c conf t.summary
   one q t e =
-      let named : t.summary.id ≡ q = eqb-true t.summary.id q (and_parts (t.summary.conf == conf) (t.summary.id == q) (find-holds (λ (t : Told). (t.summary.conf == conf) && (t.summary.id == q)) c.told t e)).1 in
+      let named : t.summary.id ≡ q = eqb-true t.summary.id q (and_parts (t.summary.conf == conf) (t.summary.id == q) (found_passes (λ (t : Told). (t.summary.conf == conf) && (t.summary.id == q)) c.told t e)).1 in
       record { told = t; found = ap (told_in c conf) named ∙ e; is = refl }
 
 -- told, with an index no greater than the newest
@@ -56,7 +56,7 @@ regular-in c conf q out = at (phase_of c.world.group q) out where
 
 module _ (c : Chronicle) (i : Invariant c) (conf later : ℕ) (a : Attempt) (found : attempt_of c conf ≡ Some a) (before : conf < later) where
   conf-is : a.conf ≡ conf
-  conf-is = eqb-true a.conf conf (find-holds (λ (a : Attempt). a.conf == conf) c.attempts a found)
+  conf-is = eqb-true a.conf conf (found_passes (λ (a : Attempt). a.conf == conf) c.attempts a found)
 
   -- a summary of the later configuration shows it, where its sender is a member without a record of it
   pub without-dead : (s : Summary) → IsToldIn c later s → has a.set s.id ≡ true → s.prim.index ≤ a.from → is_record_of a.conf s.vulnerable ≡ false → is_dead c a ≡ true

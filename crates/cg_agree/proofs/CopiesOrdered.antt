@@ -4,11 +4,10 @@ use Rattle.std.proofs.lemmas.List.{length-drop}
 use Rattle.std.specs.Option.{option_map_or}
 use Rattle.std.specs.Prelude.{◌==◌}
 use Rattle.cg_action.specs.declared.action.Action.{Action}
-use Rattle.cg_agree_lemmas.specs.BookedRows.{each-drop}
 use Rattle.cg_agree.proofs.CopiesBooked.{greens-on_line}
 use Rattle.cg_agree.proofs.CreatorNumbered.{order-on_top}
 use Rattle.cg_agree_lemmas.specs.FrontFacts.{Front-length, Front-map, Front-of_both}
-use Rattle.cg_agree_lemmas.specs.OrderCopies.{OfSnapshots, copy-of, each-found, found-each}
+use Rattle.cg_agree_lemmas.specs.OrderCopies.{OfSnapshots, copy-of, each-found}
 use Rattle.cg_agree_lemmas.specs.SameSmalls.{as_given, first-given}
 use Rattle.cg_agree_lemmas.specs.SoundWorlds.{sound-of, sound-same}
 use Rattle.cg_agree_lemmas.specs.TurnGreens.{made-count, names-count}
@@ -25,6 +24,8 @@ use Rattle.cg_model.specs.World.{TransferState, World, has_begun, replica_of}
 use Rattle.cg_base.specs.declared.action_id.ActionId.{ActionId}
 use Rattle.cg_client.specs.Replica.{Held, Replica}
 use Rattle.cg_base.specs.Lists.{Each}
+use Rattle.cg_base.specs.EachLaws.{Each-drop}
+use Rattle.cg_base.specs.FindLaws.{found_each}
 use Rattle.cg_queue.specs.Queue.{green_count, names_of}
 
 -- what is held is made of a front of the order, of which the giver has all
@@ -120,7 +121,7 @@ module _ (c : Chronicle) (w : World) (stands : StandsBeside c w) where
       at : (o : Option TransferState) → snapshot_of v joiner ≡ o → IfSome o (λ s. (length (copied_for d joiner) ≤ length v.order) × Front (copied_for d joiner) (greens_of d s.giver))
       at None e = tt
       at (Some s) e =
-          let y : IsCopied s.giver s.content = subst (λ (o : Option TransferState). IfSome o (λ s. IsCopied s.giver s.content)) e (found-each (λ (s : TransferState). IsCopied s.giver s.content) (λ s. s.joiner == joiner) v.snapshots copies) in
+          let y : IsCopied s.giver s.content = subst (λ (o : Option TransferState). IfSome o (λ s. IsCopied s.giver s.content)) e (found_each (λ (s : TransferState). IsCopied s.giver s.content) (λ s. s.joiner == joiner) v.snapshots copies) in
           let given = is-given v d.world same joiner s e in
           let core = subst (λ (o : Option TransferState). IfSome o (λ s. IsCore d (joiner_replica joiner s.content).held (copied_for d joiner))) given.found (j.replica.cores.snapshot joiner) in
           let line = subst (λ (o : Option TransferState). IfSome o (λ s. Front (copied_for d joiner) (line_at d (top_of d)) × (length (copied_for d joiner) ≤ reached_at d (top_of d)))) given.found (j.green.one_order.snapshot joiner) in
@@ -142,7 +143,7 @@ module _ (c : Chronicle) (w : World) (stands : StandsBeside c w) where
   copies-shown p n are q joiner r e none =
       let s = snapshot_for w q joiner r in
       let y : IsCopied s.giver s.content = copy-of IsCopied w copies-first replica-copy q joiner r e in
-      subst (Each (IsActionShown p n)) (sym y.kept) (each-drop (IsActionShown p n) s.content.queue.white y.all (actions y.all (fronts (names_of y.all) w.order y.there are.order))) where
+      subst (Each (IsActionShown p n)) (sym y.kept) (Each-drop (IsActionShown p n) s.content.queue.white y.all (actions y.all (fronts (names_of y.all) w.order y.there are.order))) where
         fronts : (xs ys : List ActionId) → Front xs ys → Each (IsNameShown p n) ys → Each (IsNameShown p n) xs
         fronts [] ys front each = tt
         fronts (x ∷ xs) [] front each = absurd front

@@ -3,6 +3,7 @@ use Rattle.std.proofs.Common.{◌≡◌, ℕ, ◌≤◌, true, false, cond, not,
 use Rattle.std.specs.Prelude.{◌==◌, option_and_then}
 use Rattle.std.specs.Option.{option_map_or}
 use Rattle.std.proofs.lemmas.Bool.{cases_Bool, cases_eq, cond-true, cond-false, and_parts, not-true}
+use Rattle.std.proofs.lemmas.Option.{same_Some}
 use Rattle.cg_base.specs.Text.{is_nil}
 use Rattle.cg_base.specs.Weights.{ids}
 use Rattle.cg_action.specs.declared.action.Action.{Action}
@@ -60,9 +61,6 @@ moves-none c d nodes pasts = record {
   greens = λ p. (let e = ap (λ xs. length (option_map_or (λ (x : Past). x.greens) (find (λ x. x.id == p) xs) [])) pasts in omega arith);
 }
 
-held-is : (h k : Held) → Some h ≡ Some k → h ≡ k
-held-is h k e = ap (λ o. option_map_or (λ x. x) o h) e
-
 -- one replica has another life
 pub moved : (c d : Chronicle) (p : ℕ) (life : NodeState) (old : Held) → ((q : ℕ) → node_of d.world q ≡ cond (p == q) (Some (record { id = p; life = life })) (node_of c.world q)) →
     core_of c p ≡ Some old → old.prim.index ≤ (held_in life).prim.index → ((q : ℕ) → length (greens_of c q) ≤ length (greens_of d q)) → CoresMove c d
@@ -70,7 +68,7 @@ moved c d p life old node found index greens = record {
   move = λ q h e. elim (cases_Bool (p == q)) [
     | inl same ↦
         let now : Some (held_in life) ≡ Some h = sym (ap core_in (node q ∙ cond-true (p == q) (Some (record { id = p; life = life })) (node_of c.world q) same)) ∙ e in
-        Was old (ap (core_of c) (sym (eqb-true p q same)) ∙ found) (subst (λ (x : Held). old.prim.index ≤ x.prim.index) (held-is (held_in life) h now) index)
+        Was old (ap (core_of c) (sym (eqb-true p q same)) ∙ found) (subst (λ (x : Held). old.prim.index ≤ x.prim.index) (same_Some (held_in life) h now) index)
     | inr apart ↦ Was h (sym (ap core_in (node q ∙ cond-false (p == q) (Some (record { id = p; life = life })) (node_of c.world q) apart)) ∙ e) (omega arith)
   ];
   greens = greens;

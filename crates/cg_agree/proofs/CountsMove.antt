@@ -5,6 +5,7 @@ use Rattle.std.specs.Prelude.{◌==◌}
 use Rattle.std.specs.Option.{option_map_or}
 use Rattle.std.proofs.lemmas.Bool.{cases_eq, cases_Bool, cond_both, cond-true, cond-false, ne_eqb}
 use Rattle.cg_base.specs.Sets.{has}
+use Rattle.cg_base.specs.FindLaws.{found_passes, found_before}
 use Rattle.cg_action.specs.declared.action.Action.{Action}
 use Rattle.cg_group.specs.declared.phase.Phase.{Phase}
 use Rattle.cg_group.specs.declared.phase.Phase.TheVariants.{Down, Alone, Regular, Transitional}
@@ -24,9 +25,8 @@ use Rattle.cg_agree.proofs.DeadKept.{said-attempt}
 use Rattle.cg_agree_lemmas.specs.FrontFacts.{Front-length}
 use Rattle.cg_agree.proofs.GreensFront.{greens-go_on}
 use Rattle.cg_agree.proofs.GreensMove.{GreensMove, Stays, IsHanded, Parts, Begins, greens-move}
-use Rattle.cg_agree_lemmas.specs.HandSays.{find-holds}
 use Rattle.cg_agree_lemmas.specs.HandsNow.{hands-regular}
-use Rattle.cg_agree_lemmas.specs.Keyed.{found-changed, find-append, find-none}
+use Rattle.cg_agree_lemmas.specs.Keyed.{found-changed, find-none}
 use Rattle.cg_agree.proofs.LeftMoves.{left_in, lefts, LeftMove, NoneLeaves, OneLeaves, left-move, in-running}
 use Rattle.cg_agree_lemmas.specs.OneSteps.{running-begun}
 use Rattle.cg_agree.proofs.OutStays.{out-stays, said-number}
@@ -39,7 +39,7 @@ leaving_of q left = find (λ l. l.member == q) left
 one-more : (left : List Leaving) (p n q : ℕ) → (q ≡ p → ⊥) → leaving_of q (left ++ record { member = p; count = n } ∷ []) ≡ leaving_of q left
 one-more left p n q apart = at (leaving_of q left) refl where
   at : (o : Option Leaving) → leaving_of q left ≡ o → leaving_of q (left ++ record { member = p; count = n } ∷ []) ≡ o
-  at (Some l) e = find-append (λ (l : Leaving). l.member == q) left (record { member = p; count = n } ∷ []) l e
+  at (Some l) e = found_before (λ (l : Leaving). l.member == q) left (record { member = p; count = n } ∷ []) l e
   at None e =
       find-none (λ (l : Leaving). l.member == q) left (record { member = p; count = n } ∷ []) e
       ∙ cond-false (p == q) (let x : Option Leaving = Some (record { member = p; count = n }) in x) None (ne_eqb p q (λ e. apart (sym e)))
@@ -78,7 +78,7 @@ abbrev count-of : Option Leaving → ℕ
 count-of o = option_map_or (λ l. l.count) o 0
 
 pub found-conf : (c : Chronicle) (conf : ℕ) (a : Attempt) → attempt_of c conf ≡ Some a → a.conf ≡ conf
-found-conf c conf a e = eqb-true a.conf conf (find-holds (λ (a : Attempt). a.conf == conf) c.attempts a e)
+found-conf c conf a e = eqb-true a.conf conf (found_passes (λ (a : Attempt). a.conf == conf) c.attempts a e)
 
 count-is : (c : Chronicle) (conf q : ℕ) (a : Attempt) → attempt_of c conf ≡ Some a →
     count_in c a q ≡ cond (is_in c conf q) (length (greens_of c q)) (count-of (leaving_of q (lefts c.attempts conf)))

@@ -3,7 +3,9 @@ use Rattle.std.proofs.Common.{◌≡◌, ℕ, ◌+◌, ◌≤◌, ◌<◌, true,
 use Rattle.std.specs.Prelude.{◌==◌}
 use Rattle.std.specs.Option.{option_map_or}
 use Rattle.std.proofs.lemmas.Bool.{cond-true}
+use Rattle.std.proofs.lemmas.Option.{same_Some}
 use Rattle.cg_base.specs.Sets.{has}
+use Rattle.cg_base.specs.FindLaws.{found_passes}
 use Rattle.cg_group.specs.Ready.{all_received}
 use Rattle.cg_model.specs.Chronicle.{Attempt, Chronicle}
 use Rattle.cg_model.specs.Fronts.{When}
@@ -17,7 +19,6 @@ use Rattle.cg_model.specs.Smalls.{may_make}
 use Rattle.cg_agree.proofs.AttemptSteps.{group-of}
 use Rattle.cg_agree_lemmas.specs.AttemptsGrow.{attempts-grow}
 use Rattle.cg_agree.proofs.DeadKept.{said-attempt}
-use Rattle.cg_agree_lemmas.specs.HandSays.{find-holds}
 use Rattle.cg_agree_lemmas.specs.Reach.{row-within, acts-more, take-front}
 use Rattle.cg_agree_lemmas.specs.ReachSteps.{goes_on-kept}
 use Rattle.cg_agree_lemmas.specs.ReachWorld.{when-is}
@@ -37,10 +38,7 @@ module _ (c : Chronicle) (s : Small) (i : Invariant c) (may : may_make c s ≡ t
   said = said-attempt c conf a i found
 
   conf-is : a.conf ≡ conf
-  conf-is = eqb-true a.conf conf (find-holds (λ (a : Attempt). a.conf == conf) c.attempts a found)
-
-  some-is : (x y : Attempt) → Some x ≡ Some y → x ≡ y
-  some-is x y e = ap (λ o. option_map_or (λ z. z) o x) e
+  conf-is = eqb-true a.conf conf (found_passes (λ (a : Attempt). a.conf == conf) c.attempts a found)
 
   old : (p : ℕ) → has a.installed p ≡ true → IsCountedIn c conf a p
   old p installed = when-is (has a.installed p) (IsCountedIn c conf a p) installed
@@ -60,7 +58,7 @@ module _ (c : Chronicle) (s : Small) (i : Invariant c) (may : may_make c s ≡ t
   pub count-stays : (b : Attempt) (p : ℕ) → attempt_of d conf ≡ Some b → has a.installed p ≡ true → count_in d b p ≡ count_in c a p → IsCountedIn d conf b p
   count-stays b p now installed same =
       let is = (attempts-grow c s).still conf a found in
-      let this : is.now ≡ b = some-is is.now b (sym is.found ∙ now) in
+      let this : is.now ≡ b = same_Some is.now b (sym is.found ∙ now) in
       let long : length (installation b) ≡ length (installation a) = ap (λ (x : Attempt). length (installation x)) (sym this) ∙ ap length (same-installation a is.now is.grown.same) in
       let bounds = old p installed in
       let low = bounds.0 in
@@ -69,7 +67,7 @@ module _ (c : Chronicle) (s : Small) (i : Invariant c) (may : may_make c s ≡ t
       ((omega (arith, long, low, same)), (omega (arith, long, high, same, more)))
 
   conf-now : (b : Attempt) → attempt_of d conf ≡ Some b → b.conf ≡ conf
-  conf-now b now = eqb-true b.conf conf (find-holds (λ (a : Attempt). a.conf == conf) d.attempts b now)
+  conf-now b now = eqb-true b.conf conf (found_passes (λ (a : Attempt). a.conf == conf) d.attempts b now)
 
   -- who is in the configuration before and behind the step, with the same greens
   pub inside-counted : (b : Attempt) (p : ℕ) → attempt_of d conf ≡ Some b → has a.installed p ≡ true → is_in c conf p ≡ true → is_in d conf p ≡ true → greens_of d p ≡ greens_of c p → IsCountedIn d conf b p

@@ -6,6 +6,7 @@ use Rattle.std.proofs.lemmas.Bool.{cond-true}
 use Rattle.std.proofs.lemmas.List.Sums.{fold-append}
 use Rattle.cg_base.specs.Lists.{at_place}
 use Rattle.cg_base.specs.Sets.{has}
+use Rattle.cg_base.specs.FindLaws.{found_passes}
 use Rattle.cg_wire.specs.declared.message.Msg.{Msg}
 use Rattle.cg_wire.specs.declared.message.Msg.TheVariants.{Action as ActionMsg, State as StateMsg, GreenItem, RedItem, Cpc}
 use Rattle.cg_group.specs.declared.delivery.Delivery.TheVariants.{Message}
@@ -34,7 +35,6 @@ use Rattle.cg_agree_lemmas.specs.EntryGreens.{nothing-new}
 use Rattle.cg_agree.proofs.ExchangeSmalls.{replica-behind}
 use Rattle.cg_agree.proofs.GreenLine.{regular-state}
 use Rattle.cg_agree_lemmas.specs.GroupKept.{leaving-regular}
-use Rattle.cg_agree_lemmas.specs.HandSays.{find-holds}
 use Rattle.cg_agree_lemmas.specs.HandsKept.{regular-phase, regular-up, hosted}
 use Rattle.cg_agree_lemmas.specs.InstallGreens.{yellow-greens, in-parting}
 use Rattle.cg_agree.proofs.InstalledParts.{waits-announced, oneself-before, installs-all}
@@ -137,7 +137,7 @@ module _ (c : Chronicle) (p : ℕ) (set : List ℕ) (own : ℕ) (places : List �
         let this : is.now ≡ b = some-is is.now b (sym is.found ∙ ap (attempt_of d) here ∙ found) in
         let whole : length (greens_of d p) ≡ length (installation b) =
         ap length (greens ∙ installs-all c i p r ins done.0.before new' all.0 ∙ sym (same-installation ins.a is.now is.grown.same) ∙ ap installation this) in
-        let conf_is : b.conf ≡ conf = eqb-true b.conf conf (find-holds (λ (a : Attempt). a.conf == conf) d.attempts b found) in
+        let conf_is : b.conf ≡ conf = eqb-true b.conf conf (found_passes (λ (a : Attempt). a.conf == conf) d.attempts b found) in
         let count : count_in d b p ≡ length (greens_of d p) = cond-true (is_in d b.conf p) (length (greens_of d p)) (left_count b p) (ap (λ k. is_in d k p) conf_is ∙ inside) in
         ((omega (arith, count, whole)), (omega (arith, count, whole)))
 

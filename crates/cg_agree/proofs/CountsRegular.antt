@@ -4,7 +4,9 @@ use Rattle.std.proofs.Common.{◌≡◌, ℕ, ◌+◌, ◌≤◌, true, false, n
 use Rattle.std.specs.Prelude.{◌==◌}
 use Rattle.std.specs.Option.{option_map_or}
 use Rattle.std.proofs.lemmas.Bool.{cond-true, ne_eqb}
+use Rattle.std.proofs.lemmas.Option.{same_Some}
 use Rattle.cg_base.specs.Sets.{has}
+use Rattle.cg_base.specs.FindLaws.{found_passes}
 use Rattle.cg_group.specs.declared.phase.Phase.{Phase}
 use Rattle.cg_group.specs.declared.phase.Phase.TheVariants.{Down, Alone, Regular, Transitional}
 use Rattle.cg_group.specs.State.{phase_of, is_regular, regular_in, delivered_to}
@@ -21,7 +23,6 @@ use Rattle.cg_model.specs.Facts.{Invariant}
 use Rattle.cg_model.specs.Small.{Small, small_step}
 use Rattle.cg_model.specs.Smalls.{may_make}
 use Rattle.cg_agree.proofs.GreenLine.{HasGreenLine, primary-regular}
-use Rattle.cg_agree_lemmas.specs.HandSays.{find-holds}
 use Rattle.cg_agree.proofs.ModeKept.{mode_data-kept}
 use Rattle.cg_agree.proofs.NetFactsKept.{net-kept}
 use Rattle.cg_agree.proofs.PrimaryKept.{line-behind}
@@ -31,9 +32,6 @@ use Rattle.cg_agree.proofs.TalkFactsKept.{mode_fits-kept}
 use Rattle.cg_agree.proofs.RegularEnds.{regular-phase_is}
 use Rattle.cg_agree.proofs.ModeStates.{from-primary}
 use Rattle.cg_agree_lemmas.specs.HandsKept.{regular-up}
-
-some-is : (x y : Attempt) → Some x ≡ Some y → x ≡ y
-some-is x y e = ap (λ o. option_map_or (λ z. z) o x) e
 
 there : (o : Option Replica) → is_some o ≡ true → (r : Replica) × (o ≡ Some r)
 there None e = absurd (let clash : false ≡ true = e in cc)
@@ -58,9 +56,9 @@ regular-counted c s i may conf p b found installed regular =
     subst (λ (x : Phase). IsStateIn d p x r) phase (subst (λ (o : Option Replica). IfSome o (IsStateIn d p (phase_of d.world.group p))) one.1 (mode_fits-kept c s i may p)) in
     let is : r.state ≡ RegPrim = state ∙ primary-regular (members_in d conf) conf (handed_talk d conf p) p (ap is_primary (sym state) ∙ primary) in
     let in_it : IsInPrimary d r.held conf = subst (λ (x : Phase). IsInPrimary d r.held (conf_at x)) phase (from-primary d r.held (phase_of d.world.group p) r.state primary mode.data_of) in
-    let same : attempt_at d r.held.prim.index ≡ b = some-is (attempt_at d r.held.prim.index) b (sym in_it.opened ∙ found) in
+    let same : attempt_at d r.held.prim.index ≡ b = same_Some (attempt_at d r.held.prim.index) b (sym in_it.opened ∙ found) in
     let line : HasGreenLine d p b = subst (HasGreenLine d p) same (line-behind c s i may p r one.1 is) in
-    let conf_is : b.conf ≡ conf = eqb-true b.conf conf (find-holds (λ (a : Attempt). a.conf == conf) d.attempts b found) in
+    let conf_is : b.conf ≡ conf = eqb-true b.conf conf (found_passes (λ (a : Attempt). a.conf == conf) d.attempts b found) in
     let n = delivered_to d.world.group p in
     let inside : is_in d b.conf p ≡ true = ap (λ k. is_in d k p) conf_is ∙ ap (is_at conf) phase ∙ eq-eqb conf conf refl in
     let count : count_in d b p ≡ length (greens_of d p) = cond-true (is_in d b.conf p) (length (greens_of d p)) (left_count b p) inside in

@@ -2,6 +2,7 @@
 use Rattle.std.proofs.Common.{◌≡◌, ℕ, zero, suc, ◌≤◌, ◌<◌, true, ◌||◌, List, [], take, length, refl, sym, ap, ◌∙◌, subst, arith, eq-eqb, eqb-true}
 use Rattle.std.specs.Prelude.{◌==◌}
 use Rattle.cg_base.specs.declared.action_id.ActionId.{ActionId}
+use Rattle.cg_base.specs.FindLaws.{found_passes}
 use Rattle.cg_action.specs.declared.action.Action.{Action}
 use Rattle.cg_queue.specs.Queue.{names_of}
 use Rattle.cg_model.specs.Chronicle.{Attempt, Chronicle}
@@ -12,7 +13,6 @@ use Rattle.cg_model.specs.FactsGreens.{CoversLevel}
 use Rattle.cg_model.specs.Facts.{Invariant}
 use Rattle.cg_model.specs.Small.{Small, small_step}
 use Rattle.cg_model.specs.Smalls.{may_make}
-use Rattle.cg_agree_lemmas.specs.HandSays.{find-holds}
 use Rattle.cg_agree_lemmas.specs.FrontFacts.{Front-trans, Front-map}
 use Rattle.cg_agree_lemmas.specs.ReachWorld.{opened-at, opened-attempt, frozen-stays}
 use Rattle.cg_agree_lemmas.specs.SpineKept.{start-line}
@@ -42,7 +42,7 @@ pub level-said : (c : Chronicle) → Invariant c → (level : ℕ) → 0 < level
 level-said c i level some le =
     let o = opened-at c level i.attempt.levels_stand some le in
     let conf : (attempt_at c level).conf ≡ o.conf = ap (λ (a : Attempt). a.conf) (opened-attempt c level o)
-    ∙ eqb-true o.attempt.conf o.conf (find-holds (λ (a : Attempt). a.conf == o.conf) c.attempts o.attempt o.found) in
+    ∙ eqb-true o.attempt.conf o.conf (found_passes (λ (a : Attempt). a.conf == o.conf) c.attempts o.attempt o.found) in
     subst (λ k. 0 < length (ordered_in c k)) (sym conf) (said-attempt c o.conf o.attempt i o.found)
 
 pub covers-still : (c : Chronicle) (s : Small) → Invariant c → may_make c s ≡ true → ReachShrinks c (small_step c s) → (level : ℕ) → level ≤ top_of c → (names : List ActionId) →

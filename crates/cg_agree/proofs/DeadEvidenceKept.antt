@@ -4,6 +4,7 @@ use Rattle.std.specs.Prelude.{◌==◌, option_and_then}
 use Rattle.std.specs.Option.{option_map_or}
 use Rattle.std.proofs.lemmas.Bool.{cases_Bool, cond-true, cond-false, and_parts, not-true, leb-true}
 use Rattle.cg_base.specs.Sets.{has}
+use Rattle.cg_base.specs.FindLaws.{found_passes}
 use Rattle.cg_records.specs.declared.primary.Primary.{Primary}
 use Rattle.cg_records.specs.declared.vulnerable.Vulnerable.{Vulnerable}
 use Rattle.cg_client.specs.Replica.{Held, Replica}
@@ -21,7 +22,6 @@ use Rattle.cg_model.specs.Facts.{Invariant}
 use Rattle.cg_model.specs.Played.{AtRest}
 use Rattle.cg_model.specs.Small.{Small, Starts, Makes, Enters, Orders, Receives, Hands, Leaves, Asks, Settles, Commits, Crashes, Recovers, Copies, Joins, coming, newest_conf, small_step}
 use Rattle.cg_model.specs.Smalls.{may_make}
-use Rattle.cg_agree_lemmas.specs.HandSays.{find-holds}
 use Rattle.cg_agree_lemmas.specs.HandsKept.{hosted}
 use Rattle.cg_agree_lemmas.specs.ReachFacts.{all-at}
 use Rattle.cg_agree_lemmas.specs.ReachWorld.{when-is}
@@ -145,7 +145,7 @@ module _ (c : Chronicle) (s : Small) (i : Invariant c) (may : may_make c s ≡ t
       part = part-of b p h.prim.index h.vulnerable is
 
       conf-is : b.conf ≡ conf
-      conf-is = eqb-true b.conf conf (find-holds (λ (a : Attempt). a.conf == conf) (small_step c s).attempts b found)
+      conf-is = eqb-true b.conf conf (found_passes (λ (a : Attempt). a.conf == conf) (small_step c s).attempts b found)
 
       at : HowEntered c (small_step c s) conf p b → is_dead (small_step c s) b ≡ true
       at (Before a there same was) =

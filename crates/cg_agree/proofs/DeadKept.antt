@@ -7,6 +7,8 @@ use Rattle.std.proofs.lemmas.Bool.{cases_Bool, cases_eq, and_parts, and_from, no
 use Rattle.cg_base.specs.Sets.{has}
 use Rattle.cg_knowledge.specs.declared.summary.Summary.{Summary}
 use Rattle.cg_base.specs.SetLaws.{has-without}
+use Rattle.cg_base.specs.MemberLaws.{list_any_in}
+use Rattle.cg_base.specs.FindLaws.{found_passes}
 use Rattle.cg_vote.specs.Quorum.{is_quorum}
 use Rattle.cg_vote.specs.QuorumLaws.{meet}
 use Rattle.cg_knowledge.specs.Summaries.{senders, gone, remaining}
@@ -27,7 +29,6 @@ use Rattle.cg_agree_lemmas.specs.ReachFacts.{GoesOnIn, all-at, any-more}
 use Rattle.cg_agree_lemmas.specs.Announced.{announced-front, announced-behind, senders-members}
 use Rattle.cg_agree_lemmas.specs.SameAttempt.{SameAttempt}
 use Rattle.cg_agree.proofs.AttemptSteps.{WhyInstalled, AllAnnounced, Before, Installing}
-use Rattle.cg_agree_lemmas.specs.HandSays.{find-holds}
 
 -- ---- members
 
@@ -37,13 +38,6 @@ some-of t [] e = absurd (let clash : false ≡ true = e in cc)
 some-of t (q ∷ set) e = elim (or_cases (t q) (list_any t set) e) [
   | inl here ↦ (q, or_left (q == q) (has set q) (eq-eqb q q refl), here)
   | inr later ↦ (let rest = some-of t set later in (rest.0, or_right (q == rest.0) (has set rest.0) rest.1, rest.2))
-]
-
-pub any-of : (t : ℕ → Bool) (set : List ℕ) (p : ℕ) → has set p ≡ true → t p ≡ true → list_any t set ≡ true
-any-of t [] p member is = absurd (let clash : false ≡ true = member in cc)
-any-of t (q ∷ set) p member is = elim (or_cases (q == p) (has set p) member) [
-  | inl here ↦ or_left (t q) (list_any t set) (ap t (eqb-true q p here) ∙ is)
-  | inr later ↦ or_right (t q) (list_any t set) (any-of t set p later is)
 ]
 
 pub received-one : (C : Configuration Msg) (place q : ℕ) → all_received C place ≡ true → has C.members q ≡ true → has_received C q place ≡ true
@@ -152,10 +146,10 @@ set-members c i conf a e q member =
 pub installing-alive : (c : Chronicle) (i : Invariant c) (p : ℕ) (r : Replica) (ins : Installing c p r) → is_dead c ins.a ≡ false
 installing-alive c i p r ins = false_from_ne_true (is_dead c ins.a) (λ dead. at ins.why (and_parts (not (is_installed ins.a)) (list_any (is_out_lacking c ins.a) ins.a.set || not (is_live c ins.a)) dead)) where
   conf_is : ins.a.conf ≡ ins.conf
-  conf_is = eqb-true ins.a.conf ins.conf (find-holds (λ (a : Attempt). a.conf == ins.conf) c.attempts ins.a ins.found)
+  conf_is = eqb-true ins.a.conf ins.conf (found_passes (λ (a : Attempt). a.conf == ins.conf) c.attempts ins.a ins.found)
 
   live : is_live c ins.a ≡ true
-  live = any-of (is_regular_in c ins.a.conf) ins.a.set p ins.member (ap (λ k. is_regular_in c k p) conf_is ∙ ap (is_regular_at ins.conf) ins.regular ∙ eq-eqb ins.conf ins.conf refl)
+  live = list_any_in (is_regular_in c ins.a.conf) ins.a.set p ins.member (ap (λ k. is_regular_in c k p) conf_is ∙ ap (is_regular_at ins.conf) ins.regular ∙ eq-eqb ins.conf ins.conf refl)
 
   got : (place q : ℕ) → 0 < place → place ≤ received_by_all c ins.a.conf → has ins.a.set q ≡ true → has_received (conf_of c ins.a.conf) q place ≡ true
   got place q some le member =

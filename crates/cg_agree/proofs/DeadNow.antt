@@ -6,6 +6,9 @@ use Rattle.std.specs.List.{list_any, list_all}
 use Rattle.std.proofs.lemmas.Bool.{cases_Bool, cases_eq, and_from, or_cases, or_left, or_right, not-true, false_from_ne_true}
 use Rattle.std.proofs.lemmas.List.Elements.{filter_map-append}
 use Rattle.cg_base.specs.Sets.{has, is_within}
+use Rattle.cg_base.specs.MemberLaws.{list_any_in}
+use Rattle.cg_base.specs.BoolLaws.{or_else}
+use Rattle.cg_base.specs.FindLaws.{found_passes}
 use Rattle.cg_records.specs.declared.vulnerable.Vulnerable.{Vulnerable}
 use Rattle.cg_group.specs.declared.phase.Phase.{Phase}
 use Rattle.cg_group.specs.declared.phase.Phase.TheVariants.{Down, Alone, Regular, Transitional}
@@ -28,16 +31,10 @@ use Rattle.cg_model.specs.FactsAttempts.{AnnouncedEntered, InstalledAnnounced, e
 use Rattle.cg_agree_lemmas.specs.Reach.{passes}
 use Rattle.cg_agree_lemmas.specs.ReachFacts.{all-at}
 use Rattle.cg_agree_lemmas.specs.ReachWorld.{when-is}
-use Rattle.cg_agree_lemmas.specs.HandSays.{find-holds}
-use Rattle.cg_agree.proofs.DeadKept.{any-of}
 use Rattle.cg_agree.proofs.OneAttemptKept.{announced-said}
 use Rattle.cg_agree_lemmas.specs.ListStill.{when-from}
 
 -- ---- choices
-
-or-else : (b e : Bool) → b ≡ false → (b || e) ≡ true → e ≡ true
-or-else true e is or = absurd (let clash : true ≡ false = is in cc)
-or-else false e is or = or
 
 -- a place that all have received each member has
 got-by : (d : Chronicle) (conf place q : ℕ) → all_received (conf_of d conf) place ≡ true → has (members_in d conf) q ≡ true → has_received (conf_of d conf) q place ≡ true
@@ -52,7 +49,7 @@ EnteredWithin c = (conf : ℕ) → IfSome (attempt_of c conf) (λ a. is_within a
 
 module _ (d : Chronicle) (entered : AnnouncedEntered d) (announced : InstalledAnnounced d) (conf : ℕ) (b : Attempt) (found : attempt_of d conf ≡ Some b) where
   conf-is : b.conf ≡ conf
-  conf-is = eqb-true b.conf conf (find-holds (λ (a : Attempt). a.conf == conf) d.attempts b found)
+  conf-is = eqb-true b.conf conf (found_passes (λ (a : Attempt). a.conf == conf) d.attempts b found)
 
   announcer-entered : (q : ℕ) → 0 < announced_at d conf q → has b.entered q ≡ true
   announcer-entered q some =
@@ -72,10 +69,10 @@ module _ (d : Chronicle) (entered : AnnouncedEntered d) (announced : InstalledAn
   pub lacking-dead : (p q : ℕ) → has b.set p ≡ true → has b.set q ≡ true → is_regular_in d conf p ≡ false → lacks_announcement d conf p q ≡ true → is_installed b ≡ false → is_dead d b ≡ true
   lacking-dead p q member other out lacks none =
       and_from (not (is_installed b)) (list_any (is_out_lacking d b) b.set || not (is_live d b)) (ap not none)
-      (or_left (list_any (is_out_lacking d b) b.set) (not (is_live d b)) (any-of (is_out_lacking d b) b.set p member
+      (or_left (list_any (is_out_lacking d b) b.set) (not (is_live d b)) (list_any_in (is_out_lacking d b) b.set p member
       (and_from (not (is_regular_in d b.conf p)) (list_any (lacks_announcement d b.conf p) b.set)
       (ap not (ap (λ k. is_regular_in d k p) conf-is ∙ out))
-      (any-of (lacks_announcement d b.conf p) b.set q other (ap (λ k. lacks_announcement d k p q) conf-is ∙ lacks)))))
+      (list_any_in (lacks_announcement d b.conf p) b.set q other (ap (λ k. lacks_announcement d k p q) conf-is ∙ lacks)))))
 
   -- A member that is out and never entered it.
   pub never-entered : (p : ℕ) → has b.set p ≡ true → is_regular_in d conf p ≡ false → has b.entered p ≡ false → is_dead d b ≡ true
@@ -150,7 +147,7 @@ module _ (d : Chronicle) (entered : AnnouncedEntered d) (announced : InstalledAn
         let set_is : attempt_set r.held ≡ a.set = ap (λ (v : Option Vulnerable). option_map_or (λ v. v.set) v []) inside.0 in
         let one = unheard a.set heard (ap (λ l. is_within l heard) (sym set_is) ∙ trans.1) in
         let each = all-at (λ q. has heard q || lacks_announcement d k p q) a.set one.0 (ap (list_all (λ q. has heard q || lacks_announcement d k p q)) (sym set_is) ∙ trans.2) one.1 in
-        let lacks : lacks_announcement d k p one.0 ≡ true = or-else (has heard one.0) (lacks_announcement d k p one.0) one.2 each in
+        let lacks : lacks_announcement d k p one.0 ≡ true = or_else (has heard one.0) (lacks_announcement d k p one.0) one.2 each in
         let inset = subst (λ (o : Option Attempt). IfSome o (λ a. is_within a.entered a.set ≡ true)) e (within k) in
         let member : has a.set p ≡ true = ap (has a.set) (sym data'.id) ∙ all-at (has a.set) a.entered r.held.id inset is in
         short-dead d entered announced k a e p one.0 listed member one.1 (ap (is_regular_at k) phase) lacks

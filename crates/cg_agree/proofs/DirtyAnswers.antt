@@ -14,7 +14,7 @@ use Rattle.cg_db.specs.Apply.{apply, fold_actions}
 use Rattle.cg_db.specs.Find.{answer}
 use Rattle.cg_queue.specs.Queue.{green_count, names_of}
 use Rattle.cg_base.specs.Lists.{Each}
-use Rattle.cg_base.specs.EachLaws.{Each-filter, Each-append}
+use Rattle.cg_base.specs.EachLaws.{Each-filter, Each-append, Each-drop, Each-front}
 use Rattle.cg_group.specs.State.{is_up}
 use Rattle.cg_client.specs.Install.{actions_named}
 use Rattle.cg_client.specs.Queries.{plain_reds, behind, dirty_answer, view_of}
@@ -47,20 +47,13 @@ use Rattle.cg_agree.proofs.MadeTold.{IsMadeTold, made-told}
 use Rattle.cg_agree.proofs.OrderReached.{in-order, run-some}
 use Rattle.cg_agree_lemmas.specs.OrderTold.{order_told}
 use Rattle.cg_agree.proofs.OrderedActions.{IsShownAs, shown-as, each-shown_as, all-as, ordered-as}
-use Rattle.cg_agree.proofs.RedsShown.{each-front, reds-shown}
+use Rattle.cg_agree.proofs.RedsShown.{reds-shown}
 use Rattle.cg_disk_records.specs.Holds.{run_on}
 use Rattle.cg_agree.proofs.RunPrefix.{comes}
 use Rattle.cg_agree.proofs.TellsRun.{has-told}
 use Rattle.cg_agree_lemmas.specs.TurnRows.{each-named}
 use Rattle.cg_disk_records.specs.RunMarkLaws.{run-head, run-rest}
 use Rattle.cg_model.specs.RunLaws.{world-last}
-
--- ---- lists
-
-each-drop : {X : Type 0} (P : X → Type 0) (n : ℕ) (xs : List X) → Each P xs → Each P (drop n xs)
-each-drop P zero xs each = each
-each-drop P (suc n) [] each = tt
-each-drop P (suc n) (x ∷ xs) each = each-drop P n xs each.1
 
 -- ---- the actions that a line names
 
@@ -88,13 +81,13 @@ module _ (steps : List Step) (c : Chronicle) (w : World) (stands : StandsBeside 
     reds-are : Each Is h.queue.reds
     reds-are =
         let booked = subst (λ (o : Option Replica). IfSome o (λ r. AreBooked c (r.held.queue.reds ++ r.held.own))) here (stands.facts.replica.made_once.in_memory p) in
-        shown-each h.queue.reds (each-front (IsNamed c.book) h.queue.reds h.own (each-booked c (h.queue.reds ++ h.own) booked)) low
+        shown-each h.queue.reds (Each-front (IsNamed c.book) h.queue.reds h.own (each-booked c (h.queue.reds ++ h.own) booked)) low
         (run-some h.queue.green_cut (names_of h.queue.reds) (in-order c w stands p r runs).core.contiguous.reds)
 
     greens-are : Each Is h.queue.greens
     greens-are =
         let is = in-order c w stands p r runs in
-        subst (Each Is) (sym is.core.made_of.kept) (each-drop Is h.queue.white (greens_of c p) (each-shown_as steps c w stands told (greens_of c p) is.front green_booked))
+        subst (Each Is) (sym is.core.made_of.kept) (Each-drop Is h.queue.white (greens_of c p) (each-shown_as steps c w stands told (greens_of c p) is.front green_booked))
 
     -- the yellow actions and then the other reds
     marked-shown : Each Is (actions_named h.queue h.queue.yellow ++ plain_reds h.queue)

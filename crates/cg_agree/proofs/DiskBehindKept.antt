@@ -6,6 +6,7 @@ use Rattle.std.proofs.lemmas.Bool.{cases_eq, cond-true, cond-false, ne_eqb, and_
 use Rattle.cg_base.specs.declared.weighted.Weighted.{Weighted}
 use Rattle.cg_base.specs.Text.{is_nil}
 use Rattle.cg_base.specs.Weights.{ids}
+use Rattle.cg_base.specs.OptionLaws.{is_some_false}
 use Rattle.cg_action.specs.declared.action.Action.{Action}
 use Rattle.cg_members.specs.Servers.{is_server}
 use Rattle.cg_client.specs.Replica.{Held, Replica}
@@ -28,7 +29,7 @@ use Rattle.cg_agree_lemmas.specs.HeldCommit.{recovered-id}
 use Rattle.cg_agree_lemmas.specs.OneselfWorld.{HavePasts, Rehosted, stood-same}
 use Rattle.cg_agree.proofs.BegunKept.{nothing-before}
 use Rattle.cg_agree_lemmas.specs.CoresKept.{node-of, greens-turn, past-here, past-there}
-use Rattle.cg_agree_lemmas.specs.CoresSmall.{nothing-green, nothing-stood, none-of}
+use Rattle.cg_agree_lemmas.specs.CoresSmall.{nothing-green, nothing-stood}
 
 abbrev life_in : Option Node → Option Replica
 life_in o = option_and_then (λ s. running s.life) o
@@ -193,5 +194,5 @@ disk_behind-kept c (Crashes p) hosted may old = behind-some (node_of c.world p) 
 disk_behind-kept c (Recovers p) hosted may old = behind-some (node_of c.world p) (λ s. recover_as c s.life) c (λ s e. behind-recover c p hosted s e s.life refl old) old
 disk_behind-kept c (Copies p joiner) hosted may old = behind-some (replica_of c.world p) (copy_as c p joiner) c (λ r e. record { behind = old.behind; down = old.down }) old
 disk_behind-kept c (Joins joiner) hosted may old = behind-some (snapshot_of c.world joiner) (λ s. join_with c joiner s.content) c (λ s e. behind-join c joiner
-    (none-of (past_of c joiner) (hosted.past joiner
+    (is_some_false (past_of c joiner) (hosted.past joiner
     ∙ not-true (has_begun c.world joiner) (and_parts (not (has_begun c.world joiner)) (option_map_or (λ s. is_server s.content.members joiner) (snapshot_of c.world joiner) false) may).0)) s.content old) old

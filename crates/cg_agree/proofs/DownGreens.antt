@@ -7,7 +7,7 @@ use Rattle.cg_base.specs.declared.action_id.ActionId.{ActionId}
 use Rattle.cg_base.specs.Cuts.{index_in, raise}
 use Rattle.cg_action.specs.declared.action.Action.{Action}
 use Rattle.cg_base.specs.Lists.{Each}
-use Rattle.cg_base.specs.EachLaws.{Each-append, Each-weaker, Each-list_all}
+use Rattle.cg_base.specs.EachLaws.{Each-append, Each-weaker, Each-list_all, Each-rest}
 use Rattle.cg_queue.specs.Queue.{green_count, names_of}
 use Rattle.cg_client.specs.Replica.{Held}
 use Rattle.cg_disk_records.specs.Crash.{Disk}
@@ -32,10 +32,6 @@ use Rattle.cg_agree.proofs.RedsShown.{each-low}
 use Rattle.cg_agree_lemmas.specs.TurnGreens.{disk-count, names-count}
 
 -- ---- lists of names
-
-each-later : {X : Type 0} (P : X → Type 0) (xs ys : List X) → Each P (xs ++ ys) → Each P ys
-each-later P [] ys each = each
-each-later P (x ∷ xs) ys each = each-later P xs ys each.1
 
 each-first : {X : Type 0} (P : X → Type 0) (xs ys : List X) → Front xs ys → Each P ys → Each P xs
 each-first P [] ys front each = tt
@@ -144,7 +140,7 @@ module _ (c : Chronicle) (w : World) (stands : StandsBeside c w) (fits : MadeFit
   -- its own: its greens go no further than what was shown
   own-low : Each (λ id. id.creator ≡ p → IsMade id) green
   own-low =
-      each-later (λ (id : ActionId). id.creator ≡ p → IsMade id) to-show.shown green
+      Each-rest (λ (id : ActionId). id.creator ≡ p → IsMade id) to-show.shown green
       (subst (Each (λ id. id.creator ≡ p → IsMade id)) to-show.all
       (Each-weaker (λ id. id.index ≤ index_in (cut_behind [] (names_of stood)) id.creator) (λ id. id.creator ≡ p → IsMade id) one (names_of stood) (each-counted [] (names_of stood) tt))) where
         one : (id : ActionId) → id.index ≤ index_in (cut_behind [] (names_of stood)) id.creator → id.creator ≡ p → IsMade id

@@ -2,8 +2,10 @@
 use Rattle.std.proofs.Common.{◌≡◌, ℕ, true, false, not, ◌||◌, List, [], ◌∷◌, ◌++◌, Option, Some, None, IfSome, is_some, option_map, refl, sym, ap, ◌∙◌, subst, inl, inr, eq-eqb, eqb, eqb-true}
 use Rattle.std.specs.Option.{option_map_or}
 use Rattle.std.proofs.lemmas.Bool.{cond_both, and_from, or_cases}
+use Rattle.std.proofs.lemmas.Option.{same_Some}
 use Rattle.cg_base.specs.Sets.{has, is_within}
 use Rattle.cg_base.specs.SetLaws.{has-with_member, has-without}
+use Rattle.cg_base.specs.MemberLaws.{list_all_in}
 use Rattle.cg_knowledge.specs.declared.summary.Summary.{Summary}
 use Rattle.cg_knowledge.specs.Summaries.{senders, gone, remaining}
 use Rattle.cg_group.specs.declared.phase.Phase.{Phase}
@@ -18,7 +20,7 @@ use Rattle.cg_model.specs.FactsAttempts.{IsAttempt}
 use Rattle.cg_model.specs.Facts.{Invariant}
 use Rattle.cg_model.specs.Small.{Small, small_step, with_leaver}
 use Rattle.cg_model.specs.Smalls.{may_make}
-use Rattle.cg_agree_lemmas.specs.ReachFacts.{all-at, all-from}
+use Rattle.cg_agree_lemmas.specs.ReachFacts.{all-at}
 use Rattle.cg_agree_lemmas.specs.SameAttempt.{SameAttempt, same-refl}
 use Rattle.cg_agree_lemmas.specs.AttemptsGrow.{grown-leaver, grown-entrant, grown-installer}
 use Rattle.cg_agree.proofs.AttemptSteps.{attempt-step}
@@ -78,7 +80,7 @@ entered_within-kept c s i may conf = at (attempt_of (small_step c s) conf) refl 
 
   at : (o : Option Attempt) → attempt_of (small_step c s) conf ≡ o → IfSome o (λ a. is_within a.entered a.set ≡ true)
   at None e = tt
-  at (Some b) e = all-from (has b.set) b.entered (λ q is. one b q (how-entered c (small_step c s) i conf q b (came c (small_step c s) conf b (attempt-step c s i may) e) is))
+  at (Some b) e = list_all_in (has b.set) b.entered (λ q is. one b q (how-entered c (small_step c s) i conf q b (came c (small_step c s) conf b (attempt-step c s i may) e) is))
 
 -- ---- who has entered
 
@@ -93,9 +95,6 @@ entered-begun c i conf a p found entered none =
     at None begun none = let clash : false ≡ true = begun in cc
     at (Some s) begun none = let clash : Some (held_in s.life) ≡ None = none in cc
 
-some-one : (a b : Attempt) → Some a ≡ Some b → a ≡ b
-some-one a b e = ap (λ (o : Option Attempt). option_map_or (λ x. x) o a) e
-
 own-of : (a b : Attempt) (h : Held) → h.vulnerable ≡ Some (own_record b h.id) → b ≡ a → is_record_of a.conf h.vulnerable ≡ true
 own-of a b h mine same = ap (is_record_of a.conf) mine ∙ eq-eqb b.conf a.conf (ap (λ (x : Attempt). x.conf) same)
 
@@ -104,7 +103,7 @@ pub entered-record : (c : Chronicle) (h : Held) (phase : Phase) (a : Attempt) �
     is_record_of a.conf h.vulnerable ≡ true
 entered-record c h phase a found state data' is = at state data' is where
   primary : IsInPrimary c h (conf_at phase) → is_record_of a.conf h.vulnerable ≡ true
-  primary inside = own-of a (attempt_at c h.prim.index) h inside.mine (some-one (attempt_at c h.prim.index) a (sym inside.opened ∙ found))
+  primary inside = own-of a (attempt_at c h.prim.index) h inside.mine (same_Some (attempt_at c h.prim.index) a (sym inside.opened ∙ found))
 
   attempting : IsInAttempt h (attempt_of c (conf_at phase)) → is_record_of a.conf h.vulnerable ≡ true
   attempting inside = own-of a a h (subst (IsInAttempt h) found inside).0 refl

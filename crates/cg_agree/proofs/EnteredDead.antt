@@ -3,7 +3,9 @@ use Rattle.std.proofs.Common.{◌≡◌, ℕ, ◌≤◌, nat_le, true, false, no
 use Rattle.std.specs.Prelude.{◌==◌, option_and_then}
 use Rattle.std.specs.Option.{option_map_or}
 use Rattle.std.proofs.lemmas.Bool.{cases_Bool, and_from, and_parts, le-leb}
+use Rattle.std.proofs.lemmas.Option.{same_Some}
 use Rattle.cg_base.specs.Sets.{has}
+use Rattle.cg_base.specs.FindLaws.{found_passes}
 use Rattle.cg_records.specs.declared.primary.Primary.{Primary}
 use Rattle.cg_records.specs.declared.vulnerable.Vulnerable.{Vulnerable}
 use Rattle.cg_vote.specs.Quorum.{is_quorum}
@@ -27,7 +29,6 @@ use Rattle.cg_model.specs.FactsReplica.{IsModeData, IsCounted, IsInAttempt, HasM
 use Rattle.cg_model.specs.FactsExchange.{IsRecord, HasRecord, KnowsLevels}
 use Rattle.cg_model.specs.FactsAttempts.{is_without, is_no}
 use Rattle.cg_model.specs.Facts.{Invariant}
-use Rattle.cg_agree_lemmas.specs.HandSays.{find-holds}
 use Rattle.cg_agree_lemmas.specs.HandsKept.{hosted}
 use Rattle.cg_agree_lemmas.specs.ReachWorld.{when-is}
 use Rattle.cg_agree_lemmas.specs.EndCovers.{OfEach}
@@ -66,7 +67,7 @@ no-record heard holds = cleared-each heard (and_parts (is_quorum (known_primary 
 
 module _ (c : Chronicle) (i : Invariant c) (conf p : ℕ) (a : Attempt) (found : attempt_of c conf ≡ Some a) (entered : has a.entered p ≡ true) (member : has a.set p ≡ true) where
   conf-is : a.conf ≡ conf
-  conf-is = eqb-true a.conf conf (find-holds (λ (a : Attempt). a.conf == conf) c.attempts a found)
+  conf-is = eqb-true a.conf conf (found_passes (λ (a : Attempt). a.conf == conf) c.attempts a found)
 
   data-of : (r : Replica) → replica_of c.world p ≡ Some r → IsModeData c p r
   data-of r up = subst (λ (o : Option Replica). IfSome o (IsModeData c p)) up (i.replica.mode_data p)
@@ -96,15 +97,12 @@ module _ (c : Chronicle) (i : Invariant c) (conf p : ℕ) (a : Attempt) (found :
 
   -- ---- it comes into a configuration
 
-  some-one : (x y : Attempt) → Some x ≡ Some y → x ≡ y
-  some-one x y e = ap (λ (o : Option Attempt). option_map_or (λ z. z) o x) e
-
   -- the attempt of its record is that of its configuration
   here-is : (x : Attempt) (r : Replica) (q : ℕ) → attempt_of c (conf_at (phase_of c.world.group p)) ≡ Some x → r.held.vulnerable ≡ Some (record { attempt = x.conf; from = x.from; set = x.set; bits = q ∷ [] }) →
       is_record_of a.conf r.held.vulnerable ≡ true → conf_at (phase_of c.world.group p) ≡ conf
   here-is x r q at mine is =
       let same : x.conf ≡ a.conf = eqb-true x.conf a.conf (ap (is_record_of a.conf) (sym mine) ∙ is) in
-      let number : x.conf ≡ conf_at (phase_of c.world.group p) = eqb-true x.conf (conf_at (phase_of c.world.group p)) (find-holds (λ (a : Attempt). a.conf == conf_at (phase_of c.world.group p)) c.attempts x at) in
+      let number : x.conf ≡ conf_at (phase_of c.world.group p) = eqb-true x.conf (conf_at (phase_of c.world.group p)) (found_passes (λ (a : Attempt). a.conf == conf_at (phase_of c.world.group p)) c.attempts x at) in
       sym number ∙ same ∙ conf-is
 
   pub come-dead : (r : Replica) → replica_of c.world p ≡ Some r → core_of c p ≡ Some r.held → r.held.prim.index ≤ a.from → (v : Option Vulnerable) → v ≡ record_left r.state r.held.vulnerable → is_record_of a.conf v ≡ false → is_dead c a ≡ true
@@ -116,7 +114,7 @@ module _ (c : Chronicle) (i : Invariant c) (conf p : ℕ) (a : Attempt) (found :
       at : is_record_of a.conf r.held.vulnerable ≡ true → (state : State) → r.state ≡ state → HasModeData c r.held (phase_of c.world.group p) state → is_record_of a.conf (record_left state r.held.vulnerable) ≡ false → is_dead c a ≡ true
       at is TransPrim state data' none =
           let here = here-is (attempt_at c r.held.prim.index) r r.held.id data'.0.opened data'.0.mine is in
-          let same : attempt_at c r.held.prim.index ≡ a = some-one (attempt_at c r.held.prim.index) a (sym data'.0.opened ∙ ap (attempt_of c) here ∙ found) in
+          let same : attempt_at c r.held.prim.index ≡ a = same_Some (attempt_at c r.held.prim.index) a (sym data'.0.opened ∙ ap (attempt_of c) here ∙ found) in
           let index = data'.0.index in
           let from = ap (λ (x : Attempt). x.from) same in absurd (omega (arith, index, from, low))
       at is (No k heard) state data' none = short (attempt_of c (conf_at (phase_of c.world.group p))) refl data'
@@ -161,7 +159,7 @@ module _ (c : Chronicle) (i : Invariant c) (conf p : ℕ) (a : Attempt) (found :
         let knows : KnowsLevels c end.mine = subst (λ (o : Option Told). IfSome o (KnowsLevels c)) end.found (i.exchange.summary_of_sender.levels k p) in
         let told : end.mine.summary.vulnerable ≡ Some v = sym end.holds.vulnerable ∙ own.1 in
         let number : end.mine.summary.conf ≡ k = eqb-true end.mine.summary.conf k (and_parts (end.mine.summary.conf == k) (end.mine.summary.id == p)
-        (find-holds (λ (t : Told). (t.summary.conf == k) && (t.summary.id == p)) c.told end.mine end.found)).0 in
+        (found_passes (λ (t : Told). (t.summary.conf == k) && (t.summary.id == p)) c.told end.mine end.found)).0 in
         let before : option_map_or (λ v. v.attempt) end.mine.summary.vulnerable 0 ≡ v.attempt = ap (λ (o : Option Vulnerable). option_map_or (λ v. v.attempt) o 0) told in
         let of : v.attempt ≡ conf = own.2 ∙ conf-is in
         let earlier = knows.record_earlier in

@@ -14,6 +14,7 @@ use Rattle.cg_client.specs.Replica.{Held, Replica}
 use Rattle.cg_states.specs.ReplicaStep.{Deliveries}
 use Rattle.cg_disk_records.specs.Crash.{FailOnce, StopWith, Disk}
 use Rattle.cg_base.specs.declared.action_id.ActionId.{ActionId}
+use Rattle.cg_base.specs.OptionLaws.{is_some_false}
 use Rattle.cg_schedule.specs.declared.event.Event.{Event}
 use Rattle.cg_schedule.specs.declared.event.Event.TheVariants.{Start, Split, Merge, Request, Weak, Dirty, Order, Recover, RecoverStopped, Downgrade, Show, ShowOrder, Gather, End, Receive, Deliver, Rounds, Stop, Fail, Join, Leave, Transfer}
 use Rattle.cg_model.specs.World.{Down, Node, World, has_begun, node_of, replica_of}
@@ -41,10 +42,6 @@ module _ (c : Chronicle) (w : World) (stands : StandsBeside c w) where
       let here : disk_held c.world q ≡ Some d.content = sym (stands.same.disk q) ∙ ap (λ (o : Option Node). option_map (λ s. on_disk s.life) o) found ∙ ap (λ l. Some (on_disk l)) is in
       subst (λ (o : Option Held). IfSome o (λ h. h.id ≡ q)) here (stands.facts.net.hosted.disk q)
 
-  none-there : (o : Option Node) → is_some o ≡ false → o ≡ None
-  none-there None e = refl
-  none-there (Some s) e = absurd (let clash : true ≡ false = e in cc)
-
   unbegun : (p joiner pieces : ℕ) → first_refusal w (Transfer p joiner pieces) ≡ None → has_begun w joiner ≡ false
   unfolding first_refusal
   unbegun p joiner pieces admitted =
@@ -60,7 +57,7 @@ module _ (c : Chronicle) (w : World) (stands : StandsBeside c w) where
     at (Some r) e =
         let s = snapshot_for w q joiner r in
         let is = snapshot-none c w stands joiner none q r e in
-        pieces-meet w (Transfer q joiner pieces) s pieces p (ap (node_of w) is.0 ∙ none-there (node_of w joiner) none)
+        pieces-meet w (Transfer q joiner pieces) s pieces p (ap (node_of w) is.0 ∙ is_some_false (node_of w joiner) none)
 
   each-split : (set list : List ℕ) → Each (λ q. has set q ≡ true) list → Each (λ h. IsHanded w (Split set) h.to (Deliveries h.list)) (map (handed_in_split w.group set) list)
   each-split set [] each = tt

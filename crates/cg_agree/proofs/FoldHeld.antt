@@ -1,5 +1,6 @@
 -- In each step of a run the database of a replica that is up is the fold of its prefix of the order.
 use Rattle.std.proofs.Common.{◌≡◌, ℕ, zero, suc, ◌+◌, ◌≤◌, List, [], ◌∷◌, length, drop, Option, Some, IfSome, sym, ap, ◌∙◌, subst, arith}
+use Rattle.cg_base.specs.ListLaws.{length-dropped}
 use Rattle.cg_action.specs.declared.action.Action.{Action}
 use Rattle.cg_db.specs.Apply.{fold_actions}
 use Rattle.cg_queue.specs.Queue.{names_of, green_count}
@@ -15,7 +16,6 @@ use Rattle.cg_model.specs.Shown.{order_of, ordered_actions}
 use Rattle.cg_model.specs.Agreement.{ComesAfter, through}
 use Rattle.cg_agree.proofs.RunSteps.{world_of, chronicle_of, step-of, StandsFor, stands-for}
 use Rattle.cg_agree.proofs.ShownActions.{ordered-shown}
-use Rattle.cg_disk_records.specs.HoldsValueLaws.{dropped}
 
 -- the greens of a replica that is up are a front of the order, and what they make is what it holds
 pub record IsInOrder (steps : List Step) (p : ℕ) (r : Replica) : Type 0 where
@@ -39,7 +39,7 @@ module _ (steps : List Step) (f : StandsFor steps) (p : ℕ) (r : Replica) (runs
         core = core;
         front = subst (Front (names_of greens)) (sym f.tells.order) front;
         booked = f.stands.facts.replica.made_once.in_greens p;
-        count = ap (λ xs. r.held.queue.white + length xs) core.made_of.kept ∙ dropped r.held.queue.white greens core.made_of.white;
+        count = ap (λ xs. r.held.queue.white + length xs) core.made_of.kept ∙ length-dropped r.held.queue.white greens core.made_of.white;
       }
 
   -- its prefix of the order is its greens

@@ -8,6 +8,8 @@ use Rattle.cg_base.specs.Lists.{Each}
 use Rattle.cg_base.specs.declared.action_id.ActionId.{ActionId}
 use Rattle.cg_base.specs.Cuts.{index_in}
 use Rattle.cg_base.specs.Ids.{same_id, has_name}
+use Rattle.cg_base.specs.BoolLaws.{and_false}
+use Rattle.cg_base.specs.IdLaws.{same_id-self}
 use Rattle.cg_action.specs.declared.action.Action.{Action}
 use Rattle.cg_action.specs.declared.entry.DbEntry.{DbEntry}
 use Rattle.cg_db.specs.Apply.{apply, fold_actions}
@@ -33,7 +35,6 @@ use Rattle.cg_model.specs.Smalls.{smalls_in}
 use Rattle.cg_model.specs.Played.{AlwaysHolds}
 use Rattle.cg_agree_lemmas.specs.FrontFacts.{Front-of_append, split_by_Front}
 use Rattle.cg_disk_records.specs.Holds.{run_on, cut_behind, Rising}
-use Rattle.cg_agree_lemmas.specs.BookGrows.{same-self}
 use Rattle.cg_agree.proofs.ShownActions.{each-action, actions-shown}
 use Rattle.cg_agree.proofs.FoldHeld.{IsInOrder, in-order}
 use Rattle.cg_disk_records.specs.CutRaiseLaws.{rising-behind}
@@ -52,7 +53,7 @@ use Rattle.cg_agree_lemmas.specs.GreensBehind.{greens-through}
 use Rattle.cg_agree_lemmas.specs.LivesSince.{lives-next}
 use Rattle.cg_agree.proofs.OwedRun.{LivesAt, OwedAt, step-shows}
 use Rattle.cg_agree_lemmas.specs.NamesTimes.{named-times, times-named, times-passing, times-failing, times-once, in-times, times-contains, contains-in, placed-within, within-placed}
-use Rattle.cg_agree.proofs.OwedKept.{whitened-created, no-more, meets, runs-now, created-now, was, says, turned-lives, owed-next, owed-run}
+use Rattle.cg_agree.proofs.OwedKept.{whitened-created, meets, runs-now, created-now, was, says, turned-lives, owed-next, owed-run}
 use Rattle.cg_disk_records.specs.RunMarkLaws.{run-names}
 
 -- ---- where a reply comes from
@@ -86,7 +87,7 @@ reply-at owed db (a ∷ actions) r there = elim (in-both (given_to owed a (apply
 two-there : (first between after : List Reply) (r again : Reply) (list : List Reply) → list ≡ first ++ r ∷ (between ++ again ∷ after) → r.id ≡ again.id → 2 ≤ times r.id (reply_ids list)
 two-there first between after r again list is same =
     let id = r.id in
-    let self : same_id id id ≡ true = same-self id in
+    let self : same_id id id ≡ true = same_id-self id in
     let other : same_id again.id id ≡ true = subst (λ x. same_id x id ≡ true) same self in
     let all : times id (reply_ids list) ≡ times id (reply_ids first ++ id ∷ (reply_ids between ++ again.id ∷ reply_ids after)) =
     ap (λ rs. times id (reply_ids rs)) is
@@ -270,7 +271,7 @@ module _ (always : AlwaysHolds) (earlier : List Step) (s : Step) (is : IsStepAt 
       made = x.made;
       said = x.said;
       undue = λ less. fresh-undue p x.none (λ i. created-now always earlier s is owed p i x.made x.said.made
-          ∙ ap (λ (b : Bool). has_name x.made (own_name p i) && not b) x.event ∙ no-more (has_name x.made (own_name p i)));
+          ∙ ap (λ (b : Bool). has_name x.made (own_name p i) && not b) x.event ∙ and_false (has_name x.made (own_name p i)));
     })
     at (Begins x) = inl (record { made = []; said = x.said; undue = λ less. fresh-undue p x.none (λ i. created-now always earlier s is owed p i [] x.said.made) })
 

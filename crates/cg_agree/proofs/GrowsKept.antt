@@ -6,6 +6,7 @@ use Rattle.std.specs.Option.{option_map_or}
 use Rattle.std.proofs.lemmas.Bool.{and_parts, not-true}
 use Rattle.std.proofs.lemmas.List.Sums.{fold-append}
 use Rattle.cg_base.specs.Sets.{has, is_within}
+use Rattle.cg_base.specs.MemberLaws.{list_all_in}
 use Rattle.cg_knowledge.specs.Summaries.{senders}
 use Rattle.cg_wire.specs.declared.message.Msg.{Msg}
 use Rattle.cg_wire.specs.declared.message.Msg.TheVariants.{Action as ActionMsg, State as StateMsg, GreenItem, RedItem, Cpc}
@@ -30,7 +31,6 @@ use Rattle.cg_agree_lemmas.specs.FrontFacts.{Front-append, split_by_Front}
 use Rattle.cg_agree.proofs.GreensFront.{greens-go_on}
 use Rattle.cg_agree.proofs.MadeOnceKept.{created-grows}
 use Rattle.cg_agree.proofs.MoreThere.{begun-kept}
-use Rattle.cg_agree_lemmas.specs.ReachFacts.{all-from}
 use Rattle.cg_agree_lemmas.specs.ReachSteps.{goes_on-kept}
 use Rattle.cg_agree_lemmas.specs.ReachWorld.{levels-kept}
 use Rattle.cg_agree_lemmas.specs.TalkCommute.{legal-append}
@@ -55,8 +55,8 @@ grows-attempts c s conf = at (attempt_of c conf) refl where
       let is = (attempts-grow c s).still conf a e in
       let b = is.now in
       subst (λ (o : Option Attempt). IsSomeWith o (HasGrown a)) (sym is.found) (record {
-        entered = all-from (has b.entered) a.entered (λ q y. is.grown.entered q y);
-        installed = all-from (has b.installed) a.installed (λ q y. is.grown.installed q y);
+        entered = list_all_in (has b.entered) a.entered (λ q y. is.grown.entered q y);
+        installed = list_all_in (has b.installed) a.installed (λ q y. is.grown.installed q y);
         same = (is.grown.same.from, is.grown.same.set, is.grown.same.greens, is.grown.same.yellow, is.grown.same.reds);
       })
 

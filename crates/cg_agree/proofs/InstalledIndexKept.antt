@@ -5,6 +5,7 @@ use Rattle.std.specs.Option.{option_map_or}
 use Rattle.std.proofs.lemmas.Bool.{cases_Bool, cond_both, cond-true, cond-false, or_cases}
 use Rattle.cg_base.specs.Sets.{has}
 use Rattle.cg_base.specs.SetLaws.{has-with_member}
+use Rattle.cg_base.specs.FindLaws.{found_before}
 use Rattle.cg_records.specs.declared.primary.Primary.{Primary}
 use Rattle.cg_client.specs.Install.{prim_after}
 use Rattle.cg_client.specs.Replica.{Held}
@@ -19,7 +20,7 @@ use Rattle.cg_model.specs.Played.{AtRest}
 use Rattle.cg_model.specs.Small.{Small, small_step, with_leaver}
 use Rattle.cg_model.specs.Smalls.{may_make}
 use Rattle.cg_agree_lemmas.specs.ReachFacts.{all-at}
-use Rattle.cg_agree_lemmas.specs.Keyed.{find-append, find-none}
+use Rattle.cg_agree_lemmas.specs.Keyed.{find-none}
 use Rattle.cg_agree_lemmas.specs.AttemptsGrow.{grown-leaver}
 use Rattle.cg_agree.proofs.AttemptSteps.{attempt-step}
 use Rattle.cg_agree.proofs.DeadKept.{set-members}
@@ -48,7 +49,7 @@ leaver-count p n q m a new old =
 
       at : (o : Option Leaving) → find (λ l. l.member == q) a.left ≡ o → option_map_or (λ l. l.count) (find (λ l. l.member == q) (a.left ++ record { member = p; count = n } ∷ [])) 0 ≤ m
       at (Some l) e =
-          let same = ap (λ (o : Option Leaving). option_map_or (λ l. l.count) o 0) (find-append (λ (l : Leaving). l.member == q) a.left (record { member = p; count = n } ∷ []) l e) in
+          let same = ap (λ (o : Option Leaving). option_map_or (λ l. l.count) o 0) (found_before (λ (l : Leaving). l.member == q) a.left (record { member = p; count = n } ∷ []) l e) in
           let before = ap (λ (o : Option Leaving). option_map_or (λ l. l.count) o 0) e in
           omega (arith, same, before, old)
       at None e =

@@ -8,6 +8,7 @@ use Rattle.cg_base.specs.declared.action_id.ActionId.{ActionId}
 use Rattle.cg_base.specs.Cuts.{index_in}
 use Rattle.cg_base.specs.Ids.{has_name}
 use Rattle.cg_base.specs.Sets.{has}
+use Rattle.cg_base.specs.ListLaws.{length-filter}
 use Rattle.cg_action.specs.declared.action.Action.{Action}
 use Rattle.cg_queue.specs.Queue.{names_of}
 use Rattle.cg_knowledge.specs.declared.summary.Summary.{Summary}
@@ -49,17 +50,10 @@ use Rattle.cg_agree_lemmas.specs.TurnGreens.{names-count}
 
 -- ---- lists
 
-filter-less : {X : Type 0} (t : X → Bool) (xs : List X) → length (filter t xs) ≤ length xs
-filter-less t [] = omega arith
-filter-less t (x ∷ xs) = at (t x) (filter-less t xs) where
-  at : (b : Bool) → length (filter t xs) ≤ length xs → length (cond b (x ∷ filter t xs) (filter t xs)) ≤ suc (length xs)
-  at true le = omega arith
-  at false le = omega arith
-
 -- what is no shorter is all
 filter-whole : {X : Type 0} (t : X → Bool) (xs : List X) → length (filter t xs) ≡ length xs → filter t xs ≡ xs
 filter-whole t [] e = refl
-filter-whole t (x ∷ xs) e = at (t x) (filter-less t xs) (λ rest. filter-whole t xs rest) e where
+filter-whole t (x ∷ xs) e = at (t x) (length-filter t xs) (λ rest. filter-whole t xs rest) e where
   at : (b : Bool) → length (filter t xs) ≤ length xs → (length (filter t xs) ≡ length xs → filter t xs ≡ xs) → length (cond b (x ∷ filter t xs) (filter t xs)) ≡ suc (length xs) → cond b (x ∷ filter t xs) (filter t xs) ≡ x ∷ xs
   at true le rest e = ap (λ ys. x ∷ ys) (rest (omega (arith, e)))
   at false le rest e = absurd (omega (arith, le, e))

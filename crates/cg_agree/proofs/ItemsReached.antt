@@ -2,7 +2,7 @@
 use Rattle.std.proofs.Common.{◌≡◌, ℕ, zero, suc, ◌-◌, ◌<◌, ◌≤◌, true, List, [], ◌∷◌, ◌++◌, map, flat_map, fold, length, Option, Some, None, IfSome, refl, sym, ap, subst, arith, slice_get}
 use Rattle.std.specs.Option.{option_map_or}
 use Rattle.std.proofs.lemmas.Bool.{and_parts}
-use Rattle.cg_base.specs.EachLaws.{Each-append, Each-above}
+use Rattle.cg_base.specs.EachLaws.{Each-append, Each-above, Each-front}
 use Rattle.cg_base.specs.Lists.{above_up_to, Each}
 use Rattle.cg_knowledge.specs.declared.summary.Summary.{Summary}
 use Rattle.cg_knowledge.specs.Summaries.{most_updated}
@@ -87,16 +87,12 @@ item-within n heard k from at each wanted =
 
 -- ---- what is said
 
-each-first : (P : Summary → Type 0) (xs ys : List Summary) → Each P (xs ++ ys) → Each P xs
-each-first P [] ys each = tt
-each-first P (x ∷ xs) ys each = (each.0, each-first P xs ys each.1)
-
 -- who was heard before is among those heard behind
 heard-before : (P : Summary → Type 0) (list : List (Sent Msg)) (t : Talk) → Each P (fold hears t list).heard → Each P t.heard
 heard-before P [] t each = each
 heard-before P (s ∷ list) t each = at s.message (heard-before P list (hears t s) each) where
   at : (m : Msg) → Each P (hears_from t s.from m).heard → Each P t.heard
-  at (StateMsg x) is = each-first P t.heard (x ∷ []) is
+  at (StateMsg x) is = Each-front P t.heard (x ∷ []) is
   at (GreenItem place a) is = is
   at (RedItem a) is = is
   at (Cpc id conf) is = is

@@ -5,6 +5,7 @@ use Rattle.std.specs.Option.{option_map_or}
 use Rattle.std.proofs.lemmas.Bool.{cases_Bool, cond-true, cond-false, eqb-true}
 use Rattle.cg_base.specs.Lists.{Each}
 use Rattle.cg_base.specs.Cuts.{index_in}
+use Rattle.cg_base.specs.FindLaws.{found_passes}
 use Rattle.cg_action.specs.declared.action.Action.{Action}
 use Rattle.cg_client.specs.Replica.{Held, Replica}
 use Rattle.cg_model.specs.World.{Node, TransferState, World, has_begun, node_of, replica_of}
@@ -14,7 +15,6 @@ use Rattle.cg_model.specs.Looks.{greens_of, on_disk, snapshot_of, copied_for}
 use Rattle.cg_model.specs.FactsReplica.{IsCore}
 use Rattle.cg_model.specs.Played.{GivenSnapshot, StandsBeside}
 use Rattle.cg_agree_lemmas.specs.SameSmalls.{as_given, first-given}
-use Rattle.cg_agree_lemmas.specs.HandSays.{find-holds}
 use Rattle.cg_agree_lemmas.specs.SoundWorlds.{IsSound, sound-same, sound-of}
 use Rattle.cg_agree_lemmas.specs.MadeTransfer.{neither, only-both}
 use Rattle.cg_agree_lemmas.specs.BookGrows.{IsNamed, cut_of}
@@ -82,6 +82,6 @@ module _ (c : Chronicle) (w : World) (stands : StandsBeside c w) (joiner : ℕ) 
     at (Some s) e =
         let both = only-both (λ (s : TransferState). s.joiner == joiner) (λ s. s.giver == p) w.snapshots s e (sound.once joiner) in
         elim (cases_Bool (s.giver == p)) [
-          | inl whose ↦ subst Fits (sym (both ∙ cond-true (s.giver == p) (Some s) None whose)) (eqb-true s.joiner joiner (find-holds (λ (s : TransferState). s.joiner == joiner) w.snapshots s e), copied-none s e)
+          | inl whose ↦ subst Fits (sym (both ∙ cond-true (s.giver == p) (Some s) None whose)) (eqb-true s.joiner joiner (found_passes (λ (s : TransferState). s.joiner == joiner) w.snapshots s e), copied-none s e)
           | inr other ↦ subst Fits (sym (both ∙ cond-false (s.giver == p) (Some s) None other)) fresh_one
         ]

@@ -16,7 +16,6 @@ use Rattle.cg_agree.proofs.ExchangeSmalls.{replica-behind}
 use Rattle.cg_agree.proofs.FactsKept.{attempt-now}
 use Rattle.cg_agree_lemmas.specs.FrontFacts.{Front-refl}
 use Rattle.cg_agree_lemmas.specs.GroupKept.{leaving-regular}
-use Rattle.cg_agree_lemmas.specs.HandSays.{find-holds}
 use Rattle.cg_agree_lemmas.specs.HandsKept.{Sits, hosted, some-at}
 use Rattle.cg_agree_lemmas.specs.HandsNow.{whole-through}
 use Rattle.cg_agree_lemmas.specs.InstallGreens.{HasInstalledAll, in-parting}
@@ -56,6 +55,7 @@ use Rattle.cg_model.specs.World.{Up, replica_of, node_of}
 use Rattle.cg_base.specs.Cuts.{index_in}
 use Rattle.cg_base.specs.Lists.{above_up_to, count_up}
 use Rattle.cg_base.specs.Sets.{has}
+use Rattle.cg_base.specs.FindLaws.{found_passes}
 use Rattle.cg_client.specs.Replica.{Construct, Replica, State, TransPrim}
 use Rattle.cg_client.specs.Requests.{is_creating}
 use Rattle.cg_client.specs.Turn.{Turn, begin}
@@ -219,7 +219,7 @@ module _ (c : Chronicle) (p : ℕ) (set : List ℕ) (own : ℕ) (places : List �
     primary = installed-primary c (Leaves p set own places) i may (start-kept c (Leaves p set own places) tt) p r u ins done done.before attempts
 
     here : (attempt_at d level).conf ≡ ins.conf
-    here = eqb-true (attempt_at d level).conf ins.conf (find-holds (λ (a : Attempt). a.conf == ins.conf) d.attempts (attempt_at d level) primary.opened)
+    here = eqb-true (attempt_at d level).conf ins.conf (found_passes (λ (a : Attempt). a.conf == ins.conf) d.attempts (attempt_at d level) primary.opened)
 
     still : conf_of d ins.conf ≡ conf_of c ins.conf
     still = stands.conf ins.conf

@@ -4,9 +4,11 @@ use Rattle.std.specs.Prelude.{◌==◌, slice_get}
 use Rattle.std.specs.Option.{option_map_or}
 use Rattle.std.specs.List.{list_all}
 use Rattle.std.proofs.lemmas.Bool.{cases_Bool, cases_eq, cases_lt, cond-true, cond-false, and_parts, and_from, or_left, or_right, ne_eqb}
+use Rattle.std.proofs.lemmas.Option.{slice_get_within}
 use Rattle.cg_base.specs.Lists.{at_place, above_up_to, count_up}
 use Rattle.cg_base.specs.Sets.{has, is_within, with_member}
 use Rattle.cg_base.specs.SetLaws.{has-with_member}
+use Rattle.cg_base.specs.MemberLaws.{list_all_in, has_count_up}
 use Rattle.cg_knowledge.specs.Summaries.{gone, remaining}
 use Rattle.cg_knowledge.specs.Verdict.{decides}
 use Rattle.cg_wire.specs.declared.message.Msg.{Msg}
@@ -112,17 +114,6 @@ announcement-of set attempt conf t s q may from some member = at s.message refl 
   at (GreenItem k a) is may some = absurd (let clash : false ≡ true = some in cc)
   at (RedItem a) is may some = absurd (let clash : false ≡ true = some in cc)
 
-counted-up : (from n x : ℕ) → from ≤ x → x < from + n → has (count_up from n) x ≡ true
-counted-up from zero x a b = absurd (omega arith)
-counted-up from (suc n) x a b = ⊎_elim
-    (λ e. or_left (from == x) (has (count_up (suc from) n) x) (eq-eqb from x e))
-    (λ ne. or_right (from == x) (has (count_up (suc from) n) x) (counted-up (suc from) n x (omega arith) (omega arith))) (cases_eq from x)
-
-slice-short : {X : Type 0} (xs : List X) (k : ℕ) (x : X) → slice_get xs k ≡ Some x → k < length xs
-slice-short [] k x e = absurd (let clash : None ≡ Some x = e in cc)
-slice-short (y ∷ xs) zero x e = omega arith
-slice-short (y ∷ xs) (suc k) x e = (let rest = slice-short xs k x e in omega arith)
-
 past-fits : (c : Chronicle) (conf p : ℕ) (h : Held) (state : State) → is_past state ≡ true → IsTransitional c conf p h state
 past-fits c conf p h Un past = tt
 past-fits c conf p h TransPrim past = tt
@@ -177,11 +168,11 @@ module _ (c : Chronicle) (p conf : ℕ) (r : Replica) (places : List ℕ) (h : P
   covered q lacks at =
       let place : announced_at c conf q ≡ suc at.index = at.place ∙ (let e : suc (0 + at.index) ≡ suc at.index = omega arith in e) in
       let got : has_received C p (suc at.index) ≡ true = received (announced_at c conf q) lacks place in
-      let short : at.index < length list = slice-short list at.index at.sent at.found in
+      let short : at.index < length list = slice_get_within list at.index at.sent at.found in
       ⊎_elim
       (λ (lt : at.index < n). inl (subst (λ x. has X.announced x ≡ true) at.from (announced-handed set conf p list no_talk n at.index at.sent at.found lt at.announces)))
       (λ (ge : n ≤ at.index). inr (implied (has_received C p (suc at.index)) (has places (suc at.index))
-      (all-member (λ k. implies (has_received C p k) (has places k)) (above_up_to n (length list)) (suc at.index) (counted-up (suc n) (length list - n) (suc at.index) (omega arith) (omega arith)) h.holds) got))
+      (all-member (λ k. implies (has_received C p k) (has places k)) (above_up_to n (length list)) (suc at.index) (has_count_up (suc n) (length list - n) (suc at.index) (omega arith) (omega arith)) h.holds) got))
       (cases_lt at.index n) where
         received : (place : ℕ) → ((place == 0) || not (has_received C p place)) ≡ false → place ≡ suc at.index → has_received C p (suc at.index) ≡ true
         received place e is = got (has_received C p (suc at.index)) (subst (λ x. ((x == 0) || not (has_received C p x)) ≡ false) is e) where
@@ -207,10 +198,6 @@ module _ (c : Chronicle) (p conf : ℕ) (r : Replica) (places : List ℕ) (h : P
       (announced-there 0 list q)))
       (cases_Bool (lacks_announcement c conf p q))
 
-  all-from : (t : ℕ → Bool) (xs : List ℕ) → ((q : ℕ) → has xs q ≡ true → t q ≡ true) → list_all t xs ≡ true
-  all-from t [] each = refl
-  all-from t (q ∷ xs) each = and_from (t q) (list_all t xs) (each q (or_left (q == q) (has xs q) (eq-eqb q q refl))) (all-from t xs (λ x is. each x (or_right (q == x) (has xs x) is)))
-
   same-no : (a b : List ℕ) → No conf a ≡ No conf b → a ≡ b
   same-no a b e = ap heard-in e where
     heard-in : State → List ℕ
@@ -235,7 +222,7 @@ module _ (c : Chronicle) (p conf : ℕ) (r : Replica) (places : List ℕ) (h : P
         refl,
         ap (λ xs. is_within xs w.all) w.same ∙ w.few,
         ap (list_all (λ q. has w.all q || lacks_announcement c conf p q)) w.same
-            ∙ all-from (λ q. has w.all q || lacks_announcement c conf p q) (attempt_set r.held) (in-no w.all w.state w.same w.more (λ none q place s there found is. also w q place s there found is begins)),
+            ∙ list_all_in (λ q. has w.all q || lacks_announcement c conf p q) (attempt_set r.held) (in-no w.all w.state w.same w.more (λ none q place s there found is. also w q place s there found is begins)),
       ))
       (places-wait C conf (attempt_set r.held) X.announced places first (inr begins)) where
         also : (w : Waits conf (attempt_set r.held) X.announced last.replica) (q place : ℕ) (s : Sent Msg) → has places place ≡ true → at_place list place ≡ Some s → IsAnnouncement conf (attempt_set r.held) s q →

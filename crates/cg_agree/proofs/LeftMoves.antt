@@ -5,6 +5,8 @@ use Rattle.std.specs.Option.{option_map_or}
 use Rattle.std.proofs.lemmas.Bool.{cases_eq, cond_both, cond-true, cond-false, and_parts, not-true, ne_eqb}
 use Rattle.cg_base.specs.Text.{is_nil}
 use Rattle.cg_base.specs.Weights.{ids}
+use Rattle.cg_base.specs.ListLaws.{is_nil-none}
+use Rattle.cg_base.specs.FindLaws.{found_before}
 use Rattle.cg_action.specs.declared.action.Action.{Action}
 use Rattle.cg_records.specs.declared.vulnerable.Vulnerable.{Vulnerable}
 use Rattle.cg_wire.specs.declared.message.Msg.{Msg}
@@ -29,10 +31,9 @@ use Rattle.cg_agree_lemmas.specs.GroupKept.{orders-conf, receives-conf, leaving-
 use Rattle.cg_agree_lemmas.specs.GroupSound.{phase-made}
 use Rattle.cg_agree_lemmas.specs.HandsKept.{hosted}
 use Rattle.cg_agree_lemmas.specs.HandsNow.{hands-regular}
-use Rattle.cg_agree_lemmas.specs.Keyed.{found-changed, find-append, find-none}
+use Rattle.cg_agree_lemmas.specs.Keyed.{found-changed, find-none}
 use Rattle.cg_agree_lemmas.specs.NextThere.{orders-now, receives-now}
 use Rattle.cg_agree_lemmas.specs.OneSteps.{OneStep, turns-step, hands-step, leaves-step, enters-step, commits-step, copies-step, crashes-step, recovers-step, joins-step, may-join, may-enter, running-begun}
-use Rattle.cg_agree.proofs.OutStays.{unsaid}
 
 -- ---- who has left an attempt
 
@@ -59,7 +60,7 @@ lefts-more attempts new none conf = at (at_conf attempts conf) refl where
 
   at : (o : Option Attempt) → at_conf attempts conf ≡ o → lefts (attempts ++ new ∷ []) conf ≡ left_in o
   at None e = ap left_in (find-none (λ (a : Attempt). a.conf == conf) attempts (new ∷ []) e) ∙ last (new.conf == conf)
-  at (Some a) e = ap left_in (find-append (λ (a : Attempt). a.conf == conf) attempts (new ∷ []) a e)
+  at (Some a) e = ap left_in (found_before (λ (a : Attempt). a.conf == conf) attempts (new ∷ []) a e)
 
 lefts-entering : (greens : List Action) (h : Held) (attempts : List Attempt) (v : Option Vulnerable) (conf : ℕ) → lefts (entering greens h attempts v) conf ≡ lefts attempts conf
 lefts-entering greens h attempts None conf = refl
@@ -157,7 +158,7 @@ left-move c (Enters p) i m rest =
     let step = enters-step c p i.net.phase_sound enter.comes in
     OneLeaves p (length (greens_of c p)) (λ conf q apart here. other-in c _ p _ 0 true step conf q apart here)
     (λ conf said. own-out c _ p _ 0 true step conf
-    (ne_eqb (newest_conf c.world.group) conf (λ same. unsaid (ordered_in c (newest_conf c.world.group)) enter.unsaid (subst (λ k. 0 < length (ordered_in c k)) (sym same) said))))
+    (ne_eqb (newest_conf c.world.group) conf (λ same. is_nil-none (ordered_in c (newest_conf c.world.group)) enter.unsaid (subst (λ k. 0 < length (ordered_in c k)) (sym same) said))))
     refl (λ conf. lefts-turning (coming c p) p (take_newest c.world.group) conf)
 left-move c (Orders p) i m rest =
     let next = orders-now c p i.net.phase_sound (λ k. i.net.receipts_inside.places k) m in

@@ -10,6 +10,7 @@ use Rattle.cg_base.specs.declared.weighted.Weighted.{Weighted}
 use Rattle.cg_base.specs.Sets.{has}
 use Rattle.cg_base.specs.Text.{is_nil}
 use Rattle.cg_base.specs.Weights.{ids}
+use Rattle.cg_base.specs.ListLaws.{length-dropped}
 use Rattle.cg_action.specs.declared.action.Action.{Action}
 use Rattle.cg_action.specs.declared.action.Kind.{Kind}
 use Rattle.cg_members.specs.Servers.{is_among, was_ever, first_line, starting, members_of}
@@ -56,7 +57,6 @@ use Rattle.cg_agree_lemmas.specs.BookedCores.{each-booked, front-each}
 use Rattle.cg_agree.proofs.CopiesBooked.{UnbegunMadeNone, greens-on_line, joiners-booked}
 use Rattle.cg_agree.proofs.MadeOnceKept.{made_once-kept}
 use Rattle.cg_disk_records.specs.Holds.{run_on}
-use Rattle.cg_disk_records.specs.HoldsValueLaws.{dropped}
 
 -- ---- the actions that a turn makes
 
@@ -134,7 +134,7 @@ module _ (c : Chronicle) (i : Invariant c) (line : ℕ → ℕ) (high : (q : ℕ
     mine-low t is = Each-weaker (IsMine r.held) IsLow each t.made is.made where
       each : (a : Action) → IsMine r.held a → a.green_line ≤ line a.id.creator
       each a of =
-          let count : green_count r.held.queue ≡ length (greens_of c p) = ap (λ xs. r.held.queue.white + length xs) core.made_of.kept ∙ dropped r.held.queue.white (greens_of c p) core.made_of.white in
+          let count : green_count r.held.queue ≡ length (greens_of c p) = ap (λ xs. r.held.queue.white + length xs) core.made_of.kept ∙ length-dropped r.held.queue.white (greens_of c p) core.made_of.white in
           let up = high p in
           let green = of.1 in
           subst (λ n. a.green_line ≤ line n) (sym (of.0 ∙ named)) (omega arith)

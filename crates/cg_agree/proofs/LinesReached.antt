@@ -6,6 +6,7 @@ use Rattle.std.specs.Option.{option_map_or}
 use Rattle.std.proofs.lemmas.Bool.{cases_eq, cond-true, cond-false, and_parts, ne_eqb}
 use Rattle.cg_base.specs.declared.weighted.Weighted.{Weighted}
 use Rattle.cg_base.specs.Text.{is_nil}
+use Rattle.cg_base.specs.FindLaws.{found_passes}
 use Rattle.cg_members.specs.Servers.{starting}
 use Rattle.cg_model.specs.World.{has_begun}
 use Rattle.cg_model.specs.Chronicle.{Told, Chronicle}
@@ -14,7 +15,6 @@ use Rattle.cg_model.specs.FactsExchange.{AreReached, HasReached, IsSummary, Summ
 use Rattle.cg_model.specs.Facts.{Invariant}
 use Rattle.cg_model.specs.Small.{Small, Starts, Makes, Enters, Orders, Receives, Hands, Leaves, Asks, Settles, Commits, Crashes, Recovers, Copies, Joins, small_step, newest_conf}
 use Rattle.cg_model.specs.Smalls.{may_make}
-use Rattle.cg_agree_lemmas.specs.HandSays.{find-holds}
 use Rattle.cg_agree_lemmas.specs.SmallTalk.{conf-there}
 use Rattle.cg_agree_lemmas.specs.ToldKept.{IsUntold, told-same, told_in-same}
 use Rattle.cg_agree.proofs.PastKept.{EntersNow, enters-now, entry_told, told_in-enters}
@@ -107,7 +107,7 @@ module _ (c : Chronicle) (i : Invariant c) (tellers : TellersStill c) (p : ℕ) 
   tells-now : (q : ℕ) (t : Told) → told_in d new q ≡ Some t → TellsNow c q t
   tells-now q t e = record {
     greens = (of-greens q t e).0;
-    id = eqb-true t.summary.id q (and_parts (t.summary.conf == new) (t.summary.id == q) (find-holds (λ (x : Told). (x.summary.conf == new) && (x.summary.id == q)) d.told t e)).1;
+    id = eqb-true t.summary.id q (and_parts (t.summary.conf == new) (t.summary.id == q) (found_passes (λ (x : Told). (x.summary.conf == new) && (x.summary.id == q)) d.told t e)).1;
     count = (subst (λ (o : Option Told). IfSome o (IsSummary d)) e (fits-kept c (Enters p) i may new q)).count;
     begun = (of-greens q t e).1;
   }

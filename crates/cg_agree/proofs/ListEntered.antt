@@ -3,6 +3,8 @@ use Rattle.std.proofs.Common.{◌≡◌, ℕ, true, false, List, ◌++◌, Optio
 use Rattle.std.specs.Prelude.{◌==◌}
 use Rattle.std.specs.Option.{option_map_or}
 use Rattle.std.proofs.lemmas.Bool.{cases_eq, ne_eqb}
+use Rattle.std.proofs.lemmas.Option.{same_Some}
+use Rattle.cg_base.specs.FindLaws.{found_passes}
 use Rattle.cg_action.specs.declared.action.Action.{Action}
 use Rattle.cg_knowledge.specs.declared.summary.Summary.{Summary}
 use Rattle.cg_client.specs.Replica.{Replica}
@@ -19,12 +21,11 @@ use Rattle.cg_model.specs.Facts.{Invariant}
 use Rattle.cg_model.specs.Small.{Hands, with_entrant, with_installer, with_leaver, take_next, handed_next, small_step}
 use Rattle.cg_model.specs.Smalls.{may_make}
 use Rattle.cg_agree.proofs.AttemptSteps.{IsHanded, attempt-step}
-use Rattle.cg_agree.proofs.AttemptsCame.{Begins, Came, Stayed, WasLeft, WasEntered, WasInstalled, WasMade, came, some-is}
+use Rattle.cg_agree.proofs.AttemptsCame.{Begins, Came, Stayed, WasLeft, WasEntered, WasInstalled, WasMade, came}
 use Rattle.cg_agree.proofs.BookedParts.{same-booked, booked-left, booked-right}
 use Rattle.cg_agree_lemmas.specs.AttemptsGrow.{grown-leaver}
 use Rattle.cg_agree.proofs.ExchangeBehind.{told-now}
 use Rattle.cg_agree_lemmas.specs.ExchangeHands.{best-same}
-use Rattle.cg_agree_lemmas.specs.HandSays.{find-holds}
 use Rattle.cg_agree_lemmas.specs.HandsNow.{hands-now}
 use Rattle.cg_agree.proofs.PartsKept.{HasBegun, has-begun}
 use Rattle.cg_agree_lemmas.specs.SameAttempt.{SameAttempt, same-refl}
@@ -51,7 +52,7 @@ module _ (c : Chronicle) (p conf : ℕ) (i : Invariant c) (may : may_make c (Han
   old-held a b found same =
       let shape = subst (λ (o : Option Attempt). IfSome o (IsAttempt c conf)) found (i.attempt.attempt_shape conf) in
       let parts : AreParts c heard a = subst (λ l. AreParts c l a) begins.end.whole shape.parts in
-      let is : a.conf ≡ conf = eqb-true a.conf conf (find-holds (λ (a : Attempt). a.conf == conf) c.attempts a found) in
+      let is : a.conf ≡ conf = eqb-true a.conf conf (found_passes (λ (a : Attempt). a.conf == conf) c.attempts a found) in
       let told : best_told c a.conf heard ≡ Some begun.best = ap (λ k. best_told c k heard) is ∙ sym (best-same c d conf heard (told-now c p i may (hands-now c p i may))) ∙ begun.most in
       let greens : a.greens ≡ begun.best.greens = subst (λ (o : Option Told). IsSomeWith o (λ best. a.greens ≡ best.greens)) told parts.greens in
       let booked-parts = grown (a.yellow ++ a.reds) (subst (λ (o : Option Attempt). IfSome o (λ a. AreBooked c (a.yellow ++ a.reds))) found (old-booked conf)) in
@@ -67,7 +68,7 @@ module _ (c : Chronicle) (p conf : ℕ) (i : Invariant c) (may : may_make c (Han
   unfolding small_step
   made-held b q heard' r' new' begins' greens v is own yellow reds there all = ⊎_elim
       (λ (same : q ≡ p).
-      let one : new' ≡ new = some-is new' new (sym there ∙ ap (λ n. replica_of d.world n) same ∙ moved) in
+      let one : new' ≡ new = same_Some new' new (sym there ∙ ap (λ n. replica_of d.world n) same ∙ moved) in
       record {
         greens = sym (ap (λ (x : Attempt). x.greens) is ∙ own ∙ all ∙ ap (greens_of d) same);
         yellow = sym (ap (λ (x : Attempt). x.yellow) is ∙ yellow ∙ ap (λ (x : Replica). valid_yellow x.held) one);
@@ -75,7 +76,7 @@ module _ (c : Chronicle) (p conf : ℕ) (i : Invariant c) (may : may_make c (Han
       })
       (λ (other : q ≡ p → ⊥).
       let stays : replica_of d.world q ≡ replica_of c.world q = replica-turning (handed_next c p) p (take_next c.world.group p) q (ne_eqb q p other) in
-      let one : r' ≡ new' = some-is r' new' (sym begins'.up ∙ sym stays ∙ there) in
+      let one : r' ≡ new' = same_Some r' new' (sym begins'.up ∙ sym stays ∙ there) in
       absurd (let clash : true ≡ false = sym (ap (λ (x : Replica). is_attempting x.state) one ∙ ap is_attempting begins'.begun.state) ∙ begins'.beside.0 in cc))
       (cases_eq q p)
 

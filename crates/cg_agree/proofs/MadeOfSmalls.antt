@@ -39,7 +39,7 @@ use Rattle.cg_agree_lemmas.specs.MadeTransfer.{transfer-made}
 use Rattle.cg_agree_lemmas.specs.MadeRequests.{request-made, join-made, leave-made}
 use Rattle.cg_agree_lemmas.specs.MadeDeliver.{deliver-made}
 use Rattle.cg_agree_lemmas.specs.MadeSplit.{rising-set-list, split-is, turns-split}
-use Rattle.cg_agree_lemmas.specs.MadeMerge.{IsComing, length-next, merge-is, turns-merge}
+use Rattle.cg_agree_lemmas.specs.MadeMerge.{IsComing, merge-is, turns-merge}
 use Rattle.cg_agree_lemmas.specs.MadeGather.{gather-made}
 use Rattle.cg_agree_lemmas.specs.UntoldKept.{IsUntoldIn, block-keeps, block-opens}
 use Rattle.cg_agree_lemmas.specs.SameSmalls.{same-back, same-then, played-same, may-all-same}
@@ -49,6 +49,7 @@ use Rattle.cg_agree_lemmas.specs.RestFacts.{IsOpening, IsQuiet, IsKept, rest-qui
 use Rattle.cg_agree_lemmas.specs.SmallWorlds.{played_in, MayIn, RestAlong, may-all, played-world, small-world}
 use Rattle.cg_agree_lemmas.specs.MadeOlder.{downgrade-made, stopped-made}
 use Rattle.cg_base.specs.Sets.{has}
+use Rattle.cg_base.specs.ListLaws.{length-more}
 use Rattle.cg_client.specs.Joined.{piece_count}
 use Rattle.cg_disk_records.specs.Crash.{StopWith}
 
@@ -89,7 +90,7 @@ transfer-quiet w p joiner pieces =
 made-untold : (c : Chronicle) (set : List ℕ) (q : ℕ) → told_in c (suc (length c.world.group.configurations)) q ≡ None →
     IfSome (replica_of c.world q) (λ r. (is_between r.state ≡ true) × (r.held.id ≡ q)) → IsUntoldIn (suc (length c.world.group.configurations)) (small_step c (Makes set)) q
 unfolding small_step
-made-untold c set q untold between = record { told = untold; newest = length-next c.world.group.configurations _; between = between }
+made-untold c set q untold between = record { told = untold; newest = length-more c.world.group.configurations _; between = between }
 
 made-kept : (c : Chronicle) (set : List ℕ) (q : ℕ) → IsKept c (small_step c (Makes set)) q
 unfolding small_step

@@ -4,7 +4,7 @@ use Rattle.std.specs.Prelude.{◌==◌, slice_get}
 use Rattle.std.specs.Option.{option_map_or}
 use Rattle.std.proofs.lemmas.Bool.{and_parts}
 use Rattle.cg_base.specs.Lists.{Each}
-use Rattle.cg_base.specs.EachLaws.{Each-append, Each-weaker}
+use Rattle.cg_base.specs.EachLaws.{Each-append, Each-weaker, Each-drop}
 use Rattle.cg_base.specs.Cuts.{index_in}
 use Rattle.cg_base.specs.Text.{is_nil}
 use Rattle.cg_base.specs.Weights.{ids}
@@ -48,7 +48,7 @@ use Rattle.cg_agree_lemmas.specs.KeptEmpty.{anything}
 use Rattle.cg_agree_lemmas.specs.TurnRows.{OfDelivery, of-deliveries}
 use Rattle.cg_agree.proofs.MessagesKept.{DoWait, ArePlaced, TurnSays, StepSays, waits-kept, placed-kept}
 use Rattle.cg_agree_lemmas.specs.CreatedKept.{StaysCreated, created-rule, created-first}
-use Rattle.cg_agree_lemmas.specs.BookedRows.{AllFine, each-drop, fine-rule, create-fine, kept-fine}
+use Rattle.cg_agree_lemmas.specs.BookedRows.{AllFine, fine-rule, create-fine, kept-fine}
 use Rattle.cg_agree_lemmas.specs.BookGrows.{IsNamed, cut_of, rising-of, IsCounted, named-more, named-all, settle-counted, request-counted, counted-first}
 use Rattle.cg_agree_lemmas.specs.BookedCores.{FineHeld, JoinersBooked, cores-booked, booked-closed, placed-booked, waiting-booked, greens-booked, memory-booked, disk-booked, copies-booked, messages-booked, waits-booked}
 use Rattle.cg_agree_lemmas.specs.BookCounts.{BookCounts, counts-same, counts-turning, book-turn, counts-commit, counts-crash, counts-recover, counts-join, counts-start}
@@ -225,7 +225,7 @@ module _ (c : Chronicle) (i : Invariant c) (joiners : JoinersBooked c) where
           is.held,
           Each-append (IsNamed (c.book ++ t.made)) (greens_of c p) (newly_green r t.replica)
               (Each-weaker (IsNamed c.book) (IsNamed (c.book ++ t.made)) (named-more c.book t.made) (greens_of c p) (held p r disk node).1)
-              (each-drop (IsNamed (c.book ++ t.made)) (length r.held.queue.greens) t.replica.held.queue.greens is.held.greens),
+              (Each-drop (IsNamed (c.book ++ t.made)) (length r.held.queue.greens) t.replica.held.queue.greens is.held.greens),
         )
         );
     says = λ r disk node. subst (λ (list : List Action). Each (OfMessage (IsNamed list)) (part (begin r)).sent) (sym (book-is r disk node)) (sound r disk node).fine.sent;

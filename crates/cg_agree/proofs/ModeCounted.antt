@@ -3,8 +3,10 @@ use Rattle.std.proofs.Common.{◌≡◌, ℕ, Bool, true, false, not, ◌&&◌, 
 use Rattle.std.specs.Prelude.{◌==◌}
 use Rattle.std.specs.Option.{option_map_or}
 use Rattle.std.proofs.lemmas.Bool.{cases_eq, cond_both, ne_eqb}
+use Rattle.std.proofs.lemmas.Option.{same_Some}
 use Rattle.cg_base.specs.Sets.{has, with_member}
 use Rattle.cg_base.specs.SetLaws.{has-with_member}
+use Rattle.cg_base.specs.BoolLaws.{or_true, and_false}
 use Rattle.cg_records.specs.declared.vulnerable.Vulnerable.{Vulnerable}
 use Rattle.cg_knowledge.specs.declared.summary.Summary.{Summary}
 use Rattle.cg_group.specs.declared.phase.Phase.{Phase}
@@ -57,10 +59,6 @@ pub record Flow (r new : Replica) : Type 0 where
 pub flow-none : (r : Replica) → Flow r r
 flow-none r = record { id = refl; attempting = refl; primary = refl; recorded = λ k e. e }
 
-and-false : (b : Bool) → (b && false) ≡ false
-and-false true = refl
-and-false false = refl
-
 -- of an attempt with the same members at this place
 counted-as : (a b : Attempt) (r new : Replica) (q : ℕ) → r.held.id ≡ q → Flow r new → b.conf ≡ a.conf → has b.entered q ≡ has a.entered q → has b.installed q ≡ has a.installed q → IsCounted a r → IsCounted b new
 counted-as a b r new q id flow conf entered installed is =
@@ -77,7 +75,7 @@ counted-as a b r new q id flow conf entered installed is =
     at true e same =
         let old : is_record_of a.conf r.held.vulnerable ≡ true = flow.recorded a.conf (ap (λ k. is_record_of k new.held.vulnerable) (sym conf) ∙ e) in
         let none : not (has a.entered r.held.id) ≡ false = sym (ap (λ x. x && not (has a.entered r.held.id)) old) ∙ is.record_of in
-        ap (λ x. is_record_of b.conf new.held.vulnerable && not x) same ∙ ap (λ x. is_record_of b.conf new.held.vulnerable && x) none ∙ and-false (is_record_of b.conf new.held.vulnerable)
+        ap (λ x. is_record_of b.conf new.held.vulnerable && not x) same ∙ ap (λ x. is_record_of b.conf new.held.vulnerable && x) none ∙ and_false (is_record_of b.conf new.held.vulnerable)
 
 -- who enters now
 pub counted-attempted : (conf : ℕ) (heard : List Summary) (r new : Replica) (b : Attempt) (a : Attempt) → HasAttempted conf heard r new → b ≡ with_entrant new.held.id a → has a.installed new.held.id ≡ false → IsCounted b new
@@ -86,12 +84,8 @@ counted-attempted conf heard r new b a begun now installed =
     record {
       entered = entered ∙ sym (ap is_deciding begun.state);
       installed = ap (λ (x : Attempt). has x.installed new.held.id) now ∙ installed ∙ sym (ap is_primary begun.state);
-      record_of = ap (λ x. is_record_of b.conf new.held.vulnerable && not x) entered ∙ and-false (is_record_of b.conf new.held.vulnerable);
+      record_of = ap (λ x. is_record_of b.conf new.held.vulnerable && not x) entered ∙ and_false (is_record_of b.conf new.held.vulnerable);
     }
-
-or-true : (b : Bool) → (b || true) ≡ true
-or-true true = refl
-or-true false = refl
 
 -- who installs now
 pub counted-installed : (r new : Replica) (q : ℕ) (a b : Attempt) → HasInstalled r new → r.held.id ≡ q → IsCounted a r → b ≡ with_installer q a → IsCounted b new
@@ -100,13 +94,10 @@ counted-installed r new q a b done id is now =
     let old : has a.entered q ≡ true = ap (has a.entered) (sym id) ∙ is.entered ∙ ap (λ x. x || is_primary r.state) done.before in
     let entered : has b.entered new.held.id ≡ true = ap (λ (x : Attempt). has x.entered new.held.id) now ∙ ap (has a.entered) name ∙ old in
     record {
-      entered = entered ∙ sym (ap (λ x. is_attempting new.state || x) done.after ∙ or-true (is_attempting new.state));
+      entered = entered ∙ sym (ap (λ x. is_attempting new.state || x) done.after ∙ or_true (is_attempting new.state));
       installed = ap (λ (x : Attempt). has x.installed new.held.id) now ∙ ap (has (with_installer q a).installed) name ∙ installer-has a q ∙ sym done.after;
-      record_of = ap (λ x. is_record_of b.conf new.held.vulnerable && not x) entered ∙ and-false (is_record_of b.conf new.held.vulnerable);
+      record_of = ap (λ x. is_record_of b.conf new.held.vulnerable && not x) entered ∙ and_false (is_record_of b.conf new.held.vulnerable);
     }
-
-same-one : (r q : Replica) → Some r ≡ Some q → r ≡ q
-same-one r q e = ap (λ o. option_map_or (λ x. x) o r) e
 
 left-entered : (p n q : ℕ) (a : Attempt) → has (with_leaver p n a).entered q ≡ has a.entered q
 left-entered p n q a = cond_both (has a.entered p) (record a { left = a.left ++ record { member = p; count = n } ∷ [] }) a (λ (x : Attempt). has x.entered q ≡ has a.entered q) (λ y. refl) (λ n. refl)
@@ -164,8 +155,8 @@ module _ (c : Chronicle) (s : Small) (i : Invariant c) (may : may_make c s ≡ t
       as-old a b found (ap (λ (x : Attempt). x.conf) now ∙ (grown-leaver p n a).same.conf) (ap (λ (x : Attempt). has x.entered q) now ∙ left-entered p n q a) (ap (λ (x : Attempt). has x.installed q) now ∙ same-installed p n q a)
   of_came b (WasEntered a found p heard t fresh begins now moved) = elim (cases_eq p q) [
     | inl same ↦
-        let this : new ≡ fresh = same-one new fresh (sym after ∙ ap (replica_of (small_step c s).world) (sym same) ∙ moved) in
-        let was : r ≡ t = same-one r t (sym up ∙ ap (replica_of c.world) (sym same) ∙ begins.up) in
+        let this : new ≡ fresh = same_Some new fresh (sym after ∙ ap (replica_of (small_step c s).world) (sym same) ∙ moved) in
+        let was : r ≡ t = same_Some r t (sym up ∙ ap (replica_of c.world) (sym same) ∙ begins.up) in
         let name : fresh.held.id ≡ r.held.id = begins.begun.id ∙ begins.id ∙ same ∙ sym mode.id in
         let none : has a.installed fresh.held.id ≡ false = ap (has a.installed) name ∙ (counted-old a found).installed ∙ ap (λ (x : Replica). is_primary x.state) was ∙ begins.beside.1 in
         subst (IsCounted b) (sym this) (counted-attempted k heard t fresh b a begins.begun now none)
@@ -175,8 +166,8 @@ module _ (c : Chronicle) (s : Small) (i : Invariant c) (may : may_make c s ≡ t
   ]
   of_came b (WasInstalled p t fresh ins done here now levels core moved) = elim (cases_eq p q) [
     | inl same ↦
-        let this : new ≡ fresh = same-one new fresh (sym after ∙ ap (replica_of (small_step c s).world) (sym same) ∙ moved) in
-        let was : r ≡ t = same-one r t (sym up ∙ ap (replica_of c.world) (sym same) ∙ ins.up) in
+        let this : new ≡ fresh = same_Some new fresh (sym after ∙ ap (replica_of (small_step c s).world) (sym same) ∙ moved) in
+        let was : r ≡ t = same_Some r t (sym up ∙ ap (replica_of c.world) (sym same) ∙ ins.up) in
         let old = subst (IsCounted ins.a) was (counted-old ins.a (ap (attempt_of c) here ∙ ins.found)) in
         subst (IsCounted b) (sym this) (counted-installed t fresh p ins.a b done ins.id old now)
     | inr apart ↦
@@ -185,7 +176,7 @@ module _ (c : Chronicle) (s : Small) (i : Invariant c) (may : may_make c s ≡ t
   ]
   of_came b (WasMade none p heard t fresh begins greens now moved handed) = elim (cases_eq p q) [
     | inl same ↦
-        let this : new ≡ fresh = same-one new fresh (sym after ∙ ap (replica_of (small_step c s).world) (sym same) ∙ moved) in
+        let this : new ≡ fresh = same_Some new fresh (sym after ∙ ap (replica_of (small_step c s).world) (sym same) ∙ moved) in
         subst (IsCounted b) (sym this) (counted-attempted k heard t fresh b (new_attempt greens fresh.held (new_record k heard t.held.id)) begins.begun now refl)
     | inr apart ↦
         let other : (fresh.held.id == q) ≡ false = ap (λ n. n == q) (begins.begun.id ∙ begins.id) ∙ ne_eqb p q apart in

@@ -4,6 +4,7 @@ use Rattle.std.specs.Prelude.{◌==◌}
 use Rattle.std.specs.Option.{option_map_or}
 use Rattle.std.proofs.lemmas.Bool.{cond-true}
 use Rattle.cg_base.specs.Sets.{has}
+use Rattle.cg_base.specs.FindLaws.{found_passes}
 use Rattle.cg_action.specs.declared.action.Action.{Action}
 use Rattle.cg_records.specs.declared.primary.Primary.{Primary}
 use Rattle.cg_knowledge.specs.declared.summary.Summary.{Summary}
@@ -30,7 +31,6 @@ use Rattle.cg_model.specs.FactsExchange.{IsRecord, HasRecord}
 use Rattle.cg_model.specs.Facts.{Invariant}
 use Rattle.cg_model.specs.Small.{Hands, newly_green, with_installer, with_entrant, installing, entering, take_all, take_next, small_step}
 use Rattle.cg_model.specs.Smalls.{may_make}
-use Rattle.cg_agree_lemmas.specs.HandSays.{find-holds}
 use Rattle.cg_agree_lemmas.specs.HeldMarks.{IsOneself}
 use Rattle.cg_agree_lemmas.specs.OneselfWorld.{oneself-of}
 use Rattle.cg_agree_lemmas.specs.CoresKept.{held-known}
@@ -216,7 +216,7 @@ module _ (c : Chronicle) (p : ℕ) (i : Invariant c) (may : may_make c (Hands p)
       in-attempt : (o : Option Attempt) → attempt_of d conf ≡ o → IsSomeWith o (λ a. IsRecord a (new_record conf heard old.held.id)) → after.held.own ≡ [] → IsInAttempt after.held o
       in-attempt None e is own = absurd is
       in-attempt (Some a) e is own =
-          let named : a.conf ≡ conf = eqb-true a.conf conf (find-holds (λ (a : Attempt). a.conf == conf) d.attempts a e) in
+          let named : a.conf ≡ conf = eqb-true a.conf conf (found_passes (λ (a : Attempt). a.conf == conf) d.attempts a e) in
           let same : new_record conf heard old.held.id ≡ own_record a after.held.id = own-same a after.held.id named is attempted.id in
           (attempted.vulnerable ∙ ap (λ v. Some v) same, ap (λ (x : Primary). x.index) attempted.prim ∙ is.0, own)
         where

@@ -9,6 +9,7 @@ use Rattle.cg_knowledge.specs.Summaries.{senders}
 use Rattle.cg_base.specs.Sets.{has}
 use Rattle.cg_base.specs.Text.{is_nil}
 use Rattle.cg_base.specs.Weights.{ids}
+use Rattle.cg_base.specs.ListLaws.{is_nil-none}
 use Rattle.cg_members.specs.Servers.{is_server}
 use Rattle.cg_group.specs.declared.phase.Phase.{Phase}
 use Rattle.cg_group.specs.declared.phase.Phase.TheVariants.{Down as DownPhase, Alone, Regular, Transitional}
@@ -53,7 +54,7 @@ use Rattle.cg_agree.proofs.PastKept.{EntersNow, enters-now}
 use Rattle.cg_agree.proofs.AttemptSteps.{attempt-step, Installing, leaves-installing}
 use Rattle.cg_agree.proofs.DeadKept.{said-attempt, said-by}
 use Rattle.cg_agree.proofs.AttemptsCame.{Came, Stayed, WasLeft, WasEntered, WasInstalled, WasMade, came, ins-conf}
-use Rattle.cg_agree.proofs.OutStays.{unsaid, said-number}
+use Rattle.cg_agree.proofs.OutStays.{said-number}
 use Rattle.cg_agree.proofs.LevelsKept.{start-kept, installed-primary, leaves-attempts}
 use Rattle.cg_agree.proofs.CoreKept.{yellow-fits, Partway, places-on, way-first}
 use Rattle.cg_agree_lemmas.specs.ModeHeld.{none-newest, none-settle, none-request, SameLists, lists-settle, lists-request}
@@ -236,7 +237,7 @@ enters-mode c p i may now phase =
     let come = newest-come c.world.group now.replica now.between in
     let d = small_step c (Enters p) in
     let new' = (take_newest c.world.group (begin now.replica)).replica in
-    let none = none-unsaid c (Enters p) i may (newest_conf c.world.group) (λ said. unsaid (ordered_in c (newest_conf c.world.group)) now.may.unsaid said) in
+    let none = none-unsaid c (Enters p) i may (newest_conf c.world.group) (λ said. is_nil-none (ordered_in c (newest_conf c.world.group)) now.may.unsaid said) in
     record {
       id = come.id ∙ now.id;
       data_of = subst (λ (s : State). HasModeData d new'.held (phase_of d.world.group p) s) (sym come.state) (none-newest c.world.group now.replica now.between);

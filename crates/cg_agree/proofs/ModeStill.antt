@@ -2,6 +2,7 @@
 use Rattle.std.proofs.Common.{◌≡◌, ℕ, suc, ◌≤◌, [], ◌∷◌, Option, Some, None, refl, sym, ap, ◌∙◌, subst, arith, eqb-true}
 use Rattle.std.specs.Prelude.{◌==◌}
 use Rattle.cg_base.specs.Lists.{at_place}
+use Rattle.cg_base.specs.FindLaws.{found_passes}
 use Rattle.cg_group.specs.declared.phase.Phase.{Phase}
 use Rattle.cg_client.specs.Replica.{Held, State, RegPrim, TransPrim, ExchangeStates, ExchangeActions, Construct, No, Un, NonPrim, Left}
 use Rattle.cg_model.specs.Chronicle.{Attempt, Chronicle}
@@ -9,7 +10,6 @@ use Rattle.cg_model.specs.Looks.{conf_at, attempt_of, attempt_at, top_of}
 use Rattle.cg_model.specs.FactsReplica.{own_record, IsInPrimary, IsInAttempt, HasModeData}
 use Rattle.cg_model.specs.FactsAttempts.{LevelsStand}
 use Rattle.cg_model.specs.Small.{Small, small_step}
-use Rattle.cg_agree_lemmas.specs.HandSays.{find-holds}
 use Rattle.cg_agree_lemmas.specs.SameAttempt.{SameAttempt}
 use Rattle.cg_agree_lemmas.specs.ReachWorld.{Opened, opened-at, opened-attempt, levels-kept}
 use Rattle.cg_agree_lemmas.specs.AttemptsGrow.{attempts-grow}
@@ -38,9 +38,9 @@ in-primary-still c s h conf stands low is =
     let was : attempt_at c level ≡ o.attempt = opened-attempt c level o in
     let now : attempt_at d level ≡ grown.now = opened-attempt d level opened in
     let here : o.conf ≡ conf =
-    sym (eqb-true o.attempt.conf o.conf (find-holds (λ (a : Attempt). a.conf == o.conf) c.attempts o.attempt o.found))
+    sym (eqb-true o.attempt.conf o.conf (found_passes (λ (a : Attempt). a.conf == o.conf) c.attempts o.attempt o.found))
     ∙ ap (λ (a : Attempt). a.conf) (sym was)
-    ∙ eqb-true (attempt_at c level).conf conf (find-holds (λ (a : Attempt). a.conf == conf) c.attempts (attempt_at c level) is.opened) in
+    ∙ eqb-true (attempt_at c level).conf conf (found_passes (λ (a : Attempt). a.conf == conf) c.attempts (attempt_at c level) is.opened) in
     record {
       opened = ap (attempt_of d) (sym here) ∙ grown.found ∙ ap (λ a. Some a) (sym now);
       prim_conf = is.prim_conf;

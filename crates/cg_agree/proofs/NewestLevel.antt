@@ -5,6 +5,7 @@ use Rattle.std.specs.List.{list_all}
 use Rattle.std.proofs.lemmas.Bool.{cases_Bool, cond-false, ne_eqb}
 use Rattle.cg_base.specs.Sets.{has}
 use Rattle.cg_base.specs.Weights.{ids}
+use Rattle.cg_base.specs.FindLaws.{found_passes}
 use Rattle.cg_members.specs.Members.{Members}
 use Rattle.cg_client.specs.Install.{weighted}
 use Rattle.cg_model.specs.Chronicle.{Attempt, Chronicle}
@@ -15,7 +16,6 @@ use Rattle.cg_model.specs.FactsTalk.{whole_talk}
 use Rattle.cg_model.specs.FactsAttempts.{IsAttempt}
 use Rattle.cg_agree.proofs.ClearedDead.{IsToldIn, each-told, regular-in}
 use Rattle.cg_agree.proofs.DeadKept.{remaining-senders}
-use Rattle.cg_agree_lemmas.specs.HandSays.{find-holds}
 use Rattle.cg_agree_lemmas.specs.Knowledge.{sender-told}
 use Rattle.cg_agree_lemmas.specs.ReachFacts.{all-at}
 use Rattle.cg_agree_lemmas.specs.ReachWorld.{opened-at, opened-attempt}
@@ -37,7 +37,7 @@ newest-level c f some = at (top_of c) refl some where
   at zero e some = absurd (omega arith)
   at (suc level) e some =
       let o = opened-at c (suc level) f.attempt.levels_stand some (omega arith) in
-      let conf : o.attempt.conf ≡ o.conf = eqb-true o.attempt.conf o.conf (find-holds (λ (a : Attempt). a.conf == o.conf) c.attempts o.attempt o.found) in
+      let conf : o.attempt.conf ≡ o.conf = eqb-true o.attempt.conf o.conf (found_passes (λ (a : Attempt). a.conf == o.conf) c.attempts o.attempt o.found) in
       let one = subst (λ (u : Option ℕ). IsSomeWith u (λ conf. IsSomeWith (attempt_of c conf) (λ a. (a.from ≡ level) × (is_installed a ≡ true)))) o.place (f.attempt.levels_stand.opened level (omega arith)) in
       let two = subst (λ (u : Option Attempt). IsSomeWith u (λ a. (a.from ≡ level) × (is_installed a ≡ true))) o.found one in
       subst (Newest c) (sym (opened-attempt c (suc level) o)) (record {

@@ -6,6 +6,8 @@ use Rattle.std.specs.List.{list_any}
 use Rattle.std.proofs.lemmas.Bool.{cases_Bool, cases_eq, cond-false, and_parts, and_from, or_left, ne_eqb}
 use Rattle.std.proofs.lemmas.List.Elements.{filter_map-append}
 use Rattle.cg_base.specs.Sets.{has}
+use Rattle.cg_base.specs.MemberLaws.{list_any_in}
+use Rattle.cg_base.specs.FindLaws.{found_passes}
 use Rattle.cg_records.specs.declared.primary.Primary.{Primary}
 use Rattle.cg_records.specs.declared.vulnerable.Vulnerable.{Vulnerable}
 use Rattle.cg_vote.specs.Quorum.{is_quorum}
@@ -30,7 +32,6 @@ use Rattle.cg_model.specs.FactsReplica.{has_entered}
 use Rattle.cg_model.specs.Facts.{Invariant}
 use Rattle.cg_model.specs.Small.{Small, small_step}
 use Rattle.cg_model.specs.Smalls.{may_make}
-use Rattle.cg_agree_lemmas.specs.HandSays.{find-holds}
 use Rattle.cg_agree_lemmas.specs.ReachSteps.{goes_on-kept}
 use Rattle.cg_agree.proofs.FixedKept.{receipts_fixed-kept}
 use Rattle.cg_agree_lemmas.specs.EndCovers.{OfEach}
@@ -39,7 +40,7 @@ use Rattle.cg_agree_lemmas.specs.Knowledge.{known-of, each-bounded, some-sender}
 use Rattle.cg_agree_lemmas.specs.Announced.{announces}
 use Rattle.cg_agree_lemmas.specs.AttemptsGrow.{grown-leaver}
 use Rattle.cg_agree.proofs.AttemptSteps.{group-of, attempt-step}
-use Rattle.cg_agree.proofs.DeadKept.{any-of, said-by, remaining-senders, lacks-still}
+use Rattle.cg_agree.proofs.DeadKept.{said-by, remaining-senders, lacks-still}
 use Rattle.cg_agree.proofs.AttemptsCame.{Begins, Came, Stayed, WasLeft, WasEntered, WasInstalled, WasMade, came, dead-kept, made-there}
 use Rattle.cg_agree.proofs.ClearedDead.{IsToldIn, each-told, regular-in, without-dead, cleared-dead}
 
@@ -56,7 +57,7 @@ told-knows c conf (s ∷ heard) i told = (one, told-knows c conf heard i told.1)
 
 -- the attempt of a configuration has its number
 conf-of : (c : Chronicle) (k : ℕ) (a : Attempt) → attempt_of c k ≡ Some a → a.conf ≡ k
-conf-of c k a found = eqb-true a.conf k (find-holds (λ (a : Attempt). a.conf == k) c.attempts a found)
+conf-of c k a found = eqb-true a.conf k (found_passes (λ (a : Attempt). a.conf == k) c.attempts a found)
 
 module _ (c : Chronicle) (i : Invariant c) (p conf : ℕ) (heard : List Summary) (r new : Replica) (begins : Begins c p conf heard r new) where
   told : OfEach (IsToldIn c conf) heard
@@ -159,10 +160,10 @@ module _ (c : Chronicle) (s : Small) (i : Invariant c) (may : may_make c s ≡ t
       (ap (λ n. (n == 0) || not (has_received (conf_of c conf) q n)) (silent c i conf q none)) in
       let member : has x.set q ≡ true = ap (λ l. has l q) set_is ∙ share.is_in_other in
       and_from (not (is_installed x)) (list_any (is_out_lacking d x) x.set || not (is_live d x)) (ap (λ (l : List ℕ). not (nat_lt 0 (length l))) fresh)
-      (or_left (list_any (is_out_lacking d x) x.set) (not (is_live d x)) (any-of (is_out_lacking d x) x.set q member
+      (or_left (list_any (is_out_lacking d x) x.set) (not (is_live d x)) (list_any_in (is_out_lacking d x) x.set q member
       (and_from (not (is_regular_in d x.conf q)) (list_any (lacks_announcement d x.conf q) x.set)
       (ap not (ap (λ k. is_regular_in d k q) at ∙ on.stays q out))
-      (any-of (lacks_announcement d x.conf q) x.set q member (ap (λ k. lacks_announcement d k q q) at ∙ lacks)))))
+      (list_any_in (lacks_announcement d x.conf q) x.set q member (ap (λ k. lacks_announcement d k q q) at ∙ lacks)))))
 
 -- ---- each small step
 

@@ -28,6 +28,7 @@ use Rattle.cg_agree.proofs.MadeTold.{step-adds}
 use Rattle.cg_agree.proofs.RunForward.{IsStepOf, of-run}
 use Rattle.cg_agree.proofs.TellsRun.{HasTold, told-on, nothing-told}
 use Rattle.cg_base.specs.ElementLaws.{present-append}
+use Rattle.cg_base.specs.ListLaws.{greatest-append, fold_max-is}
 
 -- ---- the greatest count
 
@@ -37,25 +38,10 @@ counts_of ups = map (λ up. up.view.green_count) ups
 abbrev pub ups_in : List Line → List UpLine
 ups_in lines = present (map (λ l. l.up) lines)
 
-max-from : (n : ℕ) (ns : List ℕ) → fold max n ns ≡ max n (greatest ns)
-max-from n [] = omega arith
-max-from n (k ∷ ns) =
-    let here = max-from (max n k) ns in
-    let there = max-from (max 0 k) ns in
-    omega arith
-
-greatest-both : (ms ns : List ℕ) → greatest (ms ++ ns) ≡ max (greatest ms) (greatest ns)
-greatest-both [] ns = omega arith
-greatest-both (m ∷ ms) ns =
-    let whole = max-from (max 0 m) (ms ++ ns) in
-    let front = max-from (max 0 m) ms in
-    let rest = greatest-both ms ns in
-    omega arith
-
 greatest-below : (n : ℕ) (ns : List ℕ) → Each (λ k. k ≤ n) ns → greatest ns ≤ n
 greatest-below n [] each = omega arith
 greatest-below n (k ∷ ns) each =
-    let all = max-from (max 0 k) ns in
+    let all = fold_max-is (max 0 k) ns in
     let rest = greatest-below n ns each.1 in
     let first = each.0 in
     omega arith
@@ -65,7 +51,7 @@ counts-last earlier s =
     let ups : all_up_lines (through earlier s) ≡ all_up_lines earlier ++ ups_in s.entry.lines =
     ap ups_in (lines-last earlier s) ∙ ap present (map-append (λ (l : Line). l.up) (lines_in earlier) s.entry.lines) ∙ present-append (map (λ l. l.up) (lines_in earlier)) (map (λ l. l.up) s.entry.lines) in
     ap (λ list. greatest (counts_of list)) ups ∙ ap greatest (map-append (λ (up : UpLine). up.view.green_count) (all_up_lines earlier) (ups_in s.entry.lines))
-    ∙ greatest-both (counts_of (all_up_lines earlier)) (counts_of (ups_in s.entry.lines))
+    ∙ greatest-append (counts_of (all_up_lines earlier)) (counts_of (ups_in s.entry.lines))
 
 -- ---- the last line of a replica is one of all
 
@@ -84,7 +70,7 @@ last-below p (l ∷ lines) o =
     let ups : counts_of (ups_in (l ∷ lines)) ≡ counts_of (present (l.up ∷ [])) ++ counts_of (ups_in lines) =
     ap counts_of (present-append (l.up ∷ []) (map (λ l. l.up) lines)) ∙ map-append (λ (up : UpLine). up.view.green_count) (present (l.up ∷ [])) (ups_in lines) in
     let both : greatest (counts_of (ups_in (l ∷ lines))) ≡ max (greatest (counts_of (present (l.up ∷ [])))) (greatest (counts_of (ups_in lines))) =
-    ap greatest ups ∙ greatest-both (counts_of (present (l.up ∷ []))) (counts_of (ups_in lines)) in
+    ap greatest ups ∙ greatest-append (counts_of (present (l.up ∷ []))) (counts_of (ups_in lines)) in
     omega arith
 
 position-below : (steps : List Step) (p : ℕ) → position_of p steps ≤ greatest (counts_of (all_up_lines steps))

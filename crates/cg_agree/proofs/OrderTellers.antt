@@ -20,7 +20,6 @@ use Rattle.cg_agree_lemmas.specs.DiskEnds.{end-shown}
 use Rattle.cg_agree_lemmas.specs.EventTurns.{is-up}
 use Rattle.cg_agree_lemmas.specs.FrontFacts.{Front-length}
 use Rattle.cg_agree_lemmas.specs.GreensTold.{entry-none}
-use Rattle.cg_agree_lemmas.specs.HandSays.{find-holds}
 use Rattle.cg_agree.proofs.MadeOfSmalls.{gather-quiet, transfer-quiet}
 use Rattle.cg_agree.proofs.OrderBehind.{IsKept, NodeStateOrder, NodeOrder}
 use Rattle.cg_agree.proofs.PastKept.{enters-now, entry_told, told_in-enters}
@@ -40,6 +39,7 @@ use Rattle.cg_model.specs.Smalls.{copy_steps, ending, ending_as, gather_steps, j
 use Rattle.cg_model.specs.Turns.{Taken, stands, taken, taken_as, turns_in, turns_of}
 use Rattle.cg_model.specs.Step.{is_struck}
 use Rattle.cg_base.specs.declared.action_id.ActionId.{ActionId}
+use Rattle.cg_base.specs.FindLaws.{found_passes}
 use Rattle.cg_client.specs.Replica.{Held}
 use Rattle.cg_client.specs.Turn.{Turn}
 use Rattle.cg_group.specs.Events.{furthest, merge, transitional_places}
@@ -267,7 +267,7 @@ module _ (kept : KeptBySmalls) (c : Chronicle) (w : World) (stands : StandsBesid
     entered-within at p t e up =
         let d = played c smalls in
         let fits : IsSummary d t = subst (λ (o : Option Told). IfSome o (IsSummary d)) e (j.exchange.summary_of_sender.fits at p) in
-        let who : t.summary.id ≡ p = eqb-true t.summary.id p (and_parts (t.summary.conf == at) (t.summary.id == p) (find-holds (λ (t : Told). (t.summary.conf == at) && (t.summary.id == p)) d.told t e)).1 in
+        let who : t.summary.id ≡ p = eqb-true t.summary.id p (and_parts (t.summary.conf == at) (t.summary.id == p) (found_passes (λ (t : Told). (t.summary.conf == at) && (t.summary.id == p)) d.told t e)).1 in
         let outdone : IfSome (core_of d p) (IsOutdone d t) = subst (λ (o : Option Told). IfSome o (λ t. IfSome (core_of d p) (IsOutdone d t))) e (j.exchange.summary_of_sender.outdone at p) in
         let some = has-core p up in
         let front : Front t.greens (greens_of d t.summary.id) = (subst (λ (o : Option Held). IfSome o (IsOutdone d t)) some.is outdone).greens in

@@ -7,7 +7,7 @@ use Rattle.std.proofs.lemmas.List.Elements.{Contains-append_right}
 use Rattle.cg_base.specs.declared.action_id.ActionId.{ActionId}
 use Rattle.cg_base.specs.Ids.{same_id, has_name}
 use Rattle.cg_base.specs.Lists.{present, Each}
-use Rattle.cg_base.specs.IdLaws.{same_id-is}
+use Rattle.cg_base.specs.IdLaws.{same_id-is, same_id-self}
 use Rattle.cg_action.specs.declared.action.Action.{Action}
 use Rattle.cg_queue.specs.Queue.{names_of}
 use Rattle.cg_report.specs.declared.entry.Made.{Made}
@@ -18,7 +18,7 @@ use Rattle.cg_model.specs.Telling.{made_of}
 use Rattle.cg_model.specs.Chronicle.{Chronicle}
 use Rattle.cg_model.specs.Fronts.{Front}
 use Rattle.cg_model.specs.Played.{StandsBeside}
-use Rattle.cg_agree_lemmas.specs.BookGrows.{IsNamed, named_in, same-self, named-all}
+use Rattle.cg_agree_lemmas.specs.BookGrows.{IsNamed, named_in, named-all}
 use Rattle.cg_agree.proofs.MadeTold.{IsMadeTold, as-made}
 use Rattle.cg_agree.proofs.OrderReached.{order-named}
 use Rattle.cg_base.specs.ElementLaws.{each-contains}
@@ -45,7 +45,7 @@ found-there (a ∷ list) id is = elim (cases_Bool (same_id a.id id)) [
   | inr other ↦
       let rest = found-there list id (elim (or_cases (same_id id a.id) (has_name (names_of list) id) is) [
         | inl here ↦ absurd (let same : id ≡ a.id = same_id-is id a.id here in
-            let self : same_id a.id id ≡ true = subst (λ (x : ActionId). same_id a.id x ≡ true) (sym same) (same-self a.id) in
+            let self : same_id a.id id ≡ true = subst (λ (x : ActionId). same_id a.id x ≡ true) (sym same) (same_id-self a.id) in
             let clash : true ≡ false = sym self ∙ other in cc)
         | inr later ↦ later
       ]) in

@@ -3,7 +3,7 @@ use Rattle.cg_states.specs.ReplicaStep.{Input, Deliveries, Asks, replica_step, a
 use Rattle.cg_model.specs.FactsBooks.{AreShown, HoldsFine, IsActionShown, IsMessageShown, IsNameShown, LifeShown, NodeShown}
 use Rattle.cg_model.specs.Step.{after_event, hand_to, hand, hand_over}
 use Rattle.cg_agree_lemmas.specs.TurnRows.{OfDelivery, of-deliveries}
-use Rattle.cg_agree_lemmas.specs.BookedRows.{AllFine, each-drop, fine-rule}
+use Rattle.cg_agree_lemmas.specs.BookedRows.{AllFine, fine-rule}
 use Rattle.cg_client.specs.Turn.{Turn, begin, with_held}
 use Rattle.std.proofs.Common.{◌≡◌, ◌++◌, ◌∷◌, ◌≤◌, ◌∙◌, ◌-◌, ◌+◌, Bool, List, None, Option, Some, arith, cond, drop, false, fold, inl, inr, length, map, refl, subst, suc, sym, true, zero, ℕ, []}
 use Rattle.std.proofs.lemmas.Bool.{cases_eq, cond-false, cond_both, ne_eqb}
@@ -28,7 +28,7 @@ use Rattle.cg_client.specs.Replica.{Construct, ExchangeActions, ExchangeStates, 
 use Rattle.cg_client.specs.Requests.{buffer, create, create_kept, empty_buffer, is_creating, next_action, request, request_in, settle}
 use Rattle.cg_client.specs.Whitening.{white_at}
 use Rattle.cg_base.specs.Lists.{Each}
-use Rattle.cg_base.specs.EachLaws.{Each-append}
+use Rattle.cg_base.specs.EachLaws.{Each-append, Each-drop}
 use Rattle.cg_group.specs.declared.delivery.Handed.{Handed}
 use Rattle.cg_queue.specs.Queue.{green_count, names_of}
 use Rattle.cg_disk_records.specs.Crash.{Crashes, Disk, EventEnd, Runs, end_event, whitened}
@@ -131,7 +131,7 @@ module _ (p n : ℕ) where
 
     white-fine : (h : Held) → HoldsFine (IsActionShown p n) h → HoldsFine (IsActionShown p n) (whiten h)
     unfolding whiten
-    white-fine h is = record { greens = each-drop (IsActionShown p n) (white_at h - h.queue.white) h.queue.greens is.greens; reds = is.reds; own = is.own }
+    white-fine h is = record { greens = Each-drop (IsActionShown p n) (white_at h - h.queue.white) h.queue.greens is.greens; reds = is.reds; own = is.own }
 
     store-fine : (h : Held) → HoldsFine (IsActionShown p n) h → HoldsFine (IsActionShown p n) (stored_of h)
     store-fine h is = record { greens = is.greens; reds = is.reds; own = is.own }

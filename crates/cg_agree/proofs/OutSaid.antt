@@ -3,6 +3,7 @@ use Rattle.std.proofs.Common.{◌≡◌, ℕ, zero, suc, ◌≤◌, true, false,
 use Rattle.std.specs.Prelude.{◌==◌, slice_get}
 use Rattle.std.specs.Option.{option_map_or}
 use Rattle.std.proofs.lemmas.Bool.{cases_Bool, cond-true, cond-false, and_parts, not-true, ne_eqb}
+use Rattle.std.proofs.lemmas.Option.{slice_get_past}
 use Rattle.cg_base.specs.Weights.{ids}
 use Rattle.cg_wire.specs.declared.message.Msg.{Msg}
 use Rattle.cg_group.specs.State.{Sent, Configuration, configuration, no_configuration}
@@ -26,14 +27,9 @@ same-said : (c d : Chronicle) (p : ℕ) → ((k : ℕ) → conf_of d k ≡ conf_
 same-said c d p same conf q = ap (λ (x : Configuration Msg). placed_of q x.ordered) (same conf)
 
 -- a configuration that nobody has made has no messages
-past-end : {X : Type 0} (xs : List X) (n : ℕ) → length xs ≤ n → slice_get xs n ≡ None
-past-end [] n le = refl
-past-end (x ∷ xs) zero le = absurd (omega arith)
-past-end (x ∷ xs) (suc n) le = past-end xs n (omega arith)
-
 beyond : (c : Chronicle) (conf : ℕ) → conf ≡ suc (length c.world.group.configurations) → ordered_in c conf ≡ []
 unfolding configuration
-beyond c conf e = ap (ordered_in c) e ∙ ap (λ (o : Option (Configuration Msg)). (option_map_or (λ x. x) o no_configuration).ordered) (past-end c.world.group.configurations (length c.world.group.configurations) (omega arith))
+beyond c conf e = ap (ordered_in c) e ∙ ap (λ (o : Option (Configuration Msg)). (option_map_or (λ x. x) o no_configuration).ordered) (slice_get_past c.world.group.configurations (length c.world.group.configurations) (omega arith))
 
 none-made : (c : Chronicle) (set : List ℕ) (conf q : ℕ) → placed_of q (configuration (make_configuration c.world.group set) conf).ordered ≡ placed_of q (ordered_in c conf)
 none-made c set conf q = elim (made-is c.world.group set conf) [

@@ -4,6 +4,7 @@ use Rattle.std.specs.Prelude.{◌==◌}
 use Rattle.std.proofs.lemmas.Bool.{cases_eq, cond-true, cond-false, and_parts, not-true, ne_eqb}
 use Rattle.cg_base.specs.Weights.{ids}
 use Rattle.cg_base.specs.Text.{is_nil}
+use Rattle.cg_base.specs.ListLaws.{is_nil-none}
 use Rattle.cg_group.specs.declared.phase.Phase.{Phase}
 use Rattle.cg_group.specs.declared.phase.Phase.TheVariants.{Down, Alone, Regular, Transitional}
 use Rattle.cg_group.specs.State.{phase_of, regular_in, configuration}
@@ -49,10 +50,6 @@ nothing-said c conf empty said = at conf (subst (λ (x : Chronicle). 0 < length 
   at zero said = omega arith
   at (suc conf) said = omega arith
 
-pub unsaid : {X : Type 0} (xs : List X) → is_nil xs ≡ true → 0 < length xs → ⊥
-unsaid [] e lt = omega arith
-unsaid (x ∷ xs) e lt = let clash : false ≡ true = e in cc
-
 pub out-stays : (c : Chronicle) (s : Small) → Hosted c → may_make c s ≡ true → GroupSound c → (conf q : ℕ) → 0 < length (ordered_in c conf) → is_in c conf q ≡ false → is_in (small_step c s) conf q ≡ false
 unfolding small_step may_make
 out-stays c (Starts set) nodes m old conf q said out = absurd (nothing-said c conf (nothing-before c nodes (and_parts (is_nil c.world.nodes) (is_set (ids set)) m).0) said)
@@ -60,7 +57,7 @@ out-stays c (Makes set) nodes m old conf q said out = phase-out c (small_step c 
 out-stays c (Enters p) nodes m old conf q said out =
     let enter = may-enter c p m in
     one-out c _ p _ 0 true (enters-step c p old.phases enter.comes) conf q
-    (λ none. ne_eqb (newest_conf c.world.group) conf (λ same. unsaid (ordered_in c (newest_conf c.world.group)) enter.unsaid (subst (λ k. 0 < length (ordered_in c k)) (sym same) said))) out
+    (λ none. ne_eqb (newest_conf c.world.group) conf (λ same. is_nil-none (ordered_in c (newest_conf c.world.group)) enter.unsaid (subst (λ k. 0 < length (ordered_in c k)) (sym same) said))) out
 out-stays c (Orders p) nodes m old conf q said out =
     let next = orders-now c p old.phases (λ k. (old.confs k).places) m in
     phase-out c (small_step c (Orders p)) conf q ((orders-conf c p next.conf next.stands next.message next.rest next.at).phase q) out

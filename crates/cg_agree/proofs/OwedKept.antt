@@ -2,8 +2,10 @@
 use Rattle.std.proofs.Common.{◌≡◌, ℕ, ◌+◌, nat_lt, nat_le, Bool, true, false, not, ◌&&◌, ◌||◌, is_some, List, [], ◌∷◌, ◌++◌, map, fold, Option, Some, None, IfSome, refl, sym, ap, ap₂, ◌∙◌, subst, option_and_then, option_map, append-nil, append_assoc}
 use Rattle.std.specs.List.{list_any}
 use Rattle.std.specs.Option.{option_map_or}
+use Rattle.std.proofs.lemmas.Option.{same_Some}
 use Rattle.cg_base.specs.declared.action_id.ActionId.{ActionId}
 use Rattle.cg_base.specs.Ids.{has_name}
+use Rattle.cg_base.specs.BoolLaws.{and_false}
 use Rattle.cg_report.specs.declared.line.Line.{Line}
 use Rattle.cg_report.specs.declared.entry.Made.{Made}
 use Rattle.cg_group.specs.State.{phase_of}
@@ -46,9 +48,6 @@ pub whitened-created : (h : Held) → created (whiten h) ≡ created h
 unfolding whiten
 whitened-created h = refl
 
-pub some-is : (x y : Replica) → Some x ≡ Some y → x ≡ y
-some-is x y e = ap (λ (o : Option Replica). option_map_or (λ z. z) o x) e
-
 whole : (b : Bool) → ((b && true) || false) ≡ b
 whole true = refl
 whole false = refl
@@ -56,10 +55,6 @@ whole false = refl
 gone : (a : Bool) → ((a && false) || false) ≡ false
 gone true = refl
 gone false = refl
-
-pub no-more : (a : Bool) → (a && false) ≡ false
-no-more true = refl
-no-more false = refl
 
 module _ (always : AlwaysHolds) (earlier : List Step) (s : Step) (is : IsStepAt earlier s) (owed : (p : ℕ) → OwedAt earlier p) where
   abbrev now : List Step
@@ -158,7 +153,7 @@ module _ (always : AlwaysHolds) (earlier : List Step) (s : Step) (is : IsStepAt 
       core-now : (p : ℕ) (r : Replica) → replica_of (world_of now) p ≡ Some r → IsCoreAt (chronicle_of now).start p r.held
       core-now p r runs = at (node_of (world_of now) p) (sound-at (chronicle_of now) (world_of now) behind.stands p) runs where
         life : (l : NodeState) → LifeSound (chronicle_of now).start p l → running l ≡ Some r → IsCoreAt (chronicle_of now).start p r.held
-        life (Up x disk) sound e = subst (λ (x : Replica). IsCoreAt (chronicle_of now).start p x.held) (some-is x r e) sound.0
+        life (Up x disk) sound e = subst (λ (x : Replica). IsCoreAt (chronicle_of now).start p x.held) (same_Some x r e) sound.0
         life (Down disk green) sound e = absurd (let clash : None ≡ Some r = e in cc)
 
         at : (o : Option Node) → NodeSound (chronicle_of now).start p o → option_and_then (λ s. running s.life) o ≡ Some r → IsCoreAt (chronicle_of now).start p r.held
@@ -267,7 +262,7 @@ module _ (always : AlwaysHolds) (earlier : List Step) (s : Step) (is : IsStepAt 
 
   wakes : (p : ℕ) → WakesIn w s.event h p → Result p
   wakes p x =
-      let none : (i : ℕ) → is_created_in (own_name p i) s ≡ false = λ i. created-now p i x.made x.said.made ∙ ap (λ (b : Bool). has_name x.made (own_name p i) && not b) x.event ∙ no-more (has_name x.made (own_name p i)) in
+      let none : (i : ℕ) → is_created_in (own_name p i) s ≡ false = λ i. created-now p i x.made x.said.made ∙ ap (λ (b : Bool). has_name x.made (own_name p i) && not b) x.event ∙ and_false (has_name x.made (own_name p i)) in
       record {
         disk = subst (λ (o : Option Held). IfSome o (λ h. h.owed ≡ [])) (sym (disk-now p ∙ x.disk)) (owed p).disk;
         lives = fresh-lives p x.replica (runs-now p ∙ x.runs) (x.owed (owed p).disk) x.none none;

@@ -50,6 +50,7 @@ use Rattle.cg_disk_records.specs.Holds.{cut_behind}
 use Rattle.cg_agree_lemmas.specs.StatesSaid.{creating-ended, count-quiet, never, announcing, undecided}
 use Rattle.cg_agree_lemmas.specs.TalkEarly.{all-member, not_full, due_parts}
 use Rattle.cg_base.specs.SetLaws.{has-with_member}
+use Rattle.cg_base.specs.MemberLaws.{has_count_up, list_all_in}
 use Rattle.cg_knowledge.specs.Summaries.{senders, remaining}
 use Rattle.cg_plan.specs.declared.parts.Item.TheVariants.{Green, Red}
 use Rattle.cg_records.specs.declared.vulnerable.Vulnerable.{Vulnerable}
@@ -73,14 +74,12 @@ use Rattle.cg_agree.proofs.InstalledParts.{waits-for}
 use Rattle.cg_agree.proofs.LeavesTalk.{StandsAt, announced-there, covered}
 use Rattle.cg_agree_lemmas.specs.MarksFit.{can-install}
 use Rattle.cg_agree_lemmas.specs.Reach.{passes}
-use Rattle.cg_agree_lemmas.specs.ReachFacts.{all-from}
 use Rattle.cg_agree_lemmas.specs.ReachWorld.{when-is}
 use Rattle.cg_agree_lemmas.specs.TurnKinds.{installs-to}
 use Rattle.cg_agree_lemmas.specs.TurnValues.{even-mark_yellow}
 use Rattle.cg_queue.specs.MarkLaws.{red-placed}
 use Rattle.cg_agree_lemmas.specs.PartingIdle.{taken-append, alone-taken, left-taken}
 use Rattle.cg_disk_records.specs.RunLaws.{cut_behind-append}
-use Rattle.cg_agree_lemmas.specs.PlacesBegin.{counted}
 
 -- what ascends is above the first number
 ascends-above : (xs : List ℕ) (low high x : ℕ) → ascend_within low high xs ≡ true → has xs x ≡ true → low < x
@@ -198,7 +197,7 @@ module _ (c : Chronicle) (i : Invariant c) (p conf : ℕ) (r : Replica) (up : re
       let C = conf_of c conf in
       let all = all-member (λ place. list_all (λ earlier. implies (sender_at C earlier == sender_at C place) (has places earlier)) (above_up_to low (place - 1))) places (suc n) there closed in
       let one = all-member (λ earlier. implies (sender_at C earlier == sender_at C (suc n)) (has places earlier)) (above_up_to low (suc n - 1)) (suc j)
-      (counted (suc low) (suc n - 1 - low) (suc j) (omega arith) (omega arith)) all in
+      (has_count_up (suc low) (suc n - 1 - low) (suc j) (omega arith) (omega arith)) all in
       let from_of : Option (Sent Msg) → ℕ = λ o. option_map_or (λ (y : Sent Msg). y.from) o 0 in
       let eq : (sender_at C (suc j) == sender_at C (suc n)) ≡ true = eq-eqb (sender_at C (suc j)) (sender_at C (suc n)) (ap from_of f ∙ same ∙ sym (ap from_of e)) in
       sym (ap (λ b. implies b (has places (suc j))) eq) ∙ one
@@ -463,7 +462,7 @@ module _ (c : Chronicle) (i : Invariant c) (p conf : ℕ) (r : Replica) (up : re
           )
 
       all-heard : (cut : IsCutShort) (heard : List ℕ) → HasHeard n heard → is_within (attempt_set r.held) heard ≡ true
-      all-heard cut heard so = all-from (has heard) (attempt_set r.held) (λ q member. one q (announcement-there cut q (ap (λ l. has l q) (sym cut.attempt) ∙ member)) (announced-there 0 list q)) where
+      all-heard cut heard so = list_all_in (has heard) (attempt_set r.held) (λ q member. one q (announcement-there cut q (ap (λ l. has l q) (sym cut.attempt) ∙ member)) (announced-there 0 list q)) where
         one : (q : ℕ) → (lacks_announcement c conf p q ≡ false) × (0 < announced_at c conf q) × (announced_at c conf q ≤ n) → (announced_at c conf q ≡ 0) ⊎ StandsAt 0 list q → has heard q ≡ true
         one q found (inl none) = absurd (let lt = found.1 in omega (arith, none, lt))
         one q found (inr at) =

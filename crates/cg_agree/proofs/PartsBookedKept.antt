@@ -2,6 +2,7 @@
 -- in the step they are what its first member holds.
 use Rattle.std.proofs.Common.{◌≡◌, ℕ, true, List, [], ◌++◌, Option, Some, None, IfSome, refl, sym, ap, ◌∙◌, subst, append-nil}
 use Rattle.std.specs.Option.{option_map_or}
+use Rattle.std.proofs.lemmas.Option.{same_Some}
 use Rattle.cg_action.specs.declared.action.Action.{Action}
 use Rattle.cg_client.specs.Replica.{Replica}
 use Rattle.cg_client.specs.Requests.{settle}
@@ -17,7 +18,7 @@ use Rattle.cg_model.specs.Small.{Small, Starts, Makes, Enters, Orders, Receives,
 use Rattle.cg_model.specs.Smalls.{may_make}
 use Rattle.cg_agree.proofs.AttemptListKept.{more-booked}
 use Rattle.cg_agree.proofs.AttemptSteps.{attempt-step}
-use Rattle.cg_agree.proofs.AttemptsCame.{Came, Stayed, WasLeft, WasEntered, WasInstalled, WasMade, came, some-is}
+use Rattle.cg_agree.proofs.AttemptsCame.{Came, Stayed, WasLeft, WasEntered, WasInstalled, WasMade, came}
 use Rattle.cg_agree.proofs.BookedParts.{booked-both, new-booked}
 use Rattle.cg_agree.proofs.ExchangeBehind.{up-now}
 use Rattle.cg_agree_lemmas.specs.HandsNow.{hands-now, new, running-now}
@@ -99,7 +100,7 @@ parts_booked-kept c s i may old conf = at (attempt_of (small_step c s) conf) ref
       subst (λ (x : Attempt). AreBooked (small_step c s) (x.yellow ++ x.reds)) (sym is) (grown ins.a (ap (attempt_of c) here ∙ ins.found))
   of_came b (WasMade none p heard r new' begins greens is moved handed) =
       let n = hands-now c p i handed.may in
-      let now : new' ≡ new c p i n = some-is new' (new c p i n) (sym moved ∙ ap (λ (x : Chronicle). replica_of x.world p) handed.step ∙ up-now c p i handed.may n) in
+      let now : new' ≡ new c p i n = same_Some new' (new c p i n) (sym moved ∙ ap (λ (x : Chronicle). replica_of x.world p) handed.step ∙ up-now c p i handed.may n) in
       let exchanging : is_exchanging n.replica.state ≡ true = subst (λ (o : Option Replica). IfSome o (λ r. is_exchanging r.state ≡ true)) (running-now c p i n) handed.exchanging in
       let own = new-booked c p i handed.may n exchanging in
       let g = book-grows c s in

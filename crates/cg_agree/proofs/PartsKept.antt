@@ -3,6 +3,7 @@ use Rattle.std.proofs.Common.{◌≡◌, ℕ, true, List, [], ◌∷◌, Option,
 use Rattle.std.specs.Prelude.{option_and_then}
 use Rattle.std.specs.Option.{option_map_or}
 use Rattle.std.proofs.lemmas.Bool.{and_parts}
+use Rattle.std.proofs.lemmas.Option.{same_Some}
 use Rattle.cg_base.specs.declared.weighted.Weighted.{Weighted}
 use Rattle.cg_base.specs.Sets.{has}
 use Rattle.cg_base.specs.Text.{is_nil}
@@ -24,7 +25,7 @@ use Rattle.cg_model.specs.Facts.{Invariant}
 use Rattle.cg_model.specs.Small.{Small, Starts, Makes, Enters, Orders, Receives, Hands, Leaves, Asks, Settles, Commits, Crashes, Recovers, Copies, Joins, start, small_step}
 use Rattle.cg_model.specs.Smalls.{may_make, is_set}
 use Rattle.cg_agree.proofs.AttemptSteps.{IsHanded, attempt-step}
-use Rattle.cg_agree.proofs.AttemptsCame.{Begins, Came, Stayed, WasLeft, WasEntered, WasInstalled, WasMade, came, some-is}
+use Rattle.cg_agree.proofs.AttemptsCame.{Begins, Came, Stayed, WasLeft, WasEntered, WasInstalled, WasMade, came}
 use Rattle.cg_agree.proofs.BegunKept.{nothing-before}
 use Rattle.cg_agree.proofs.BuiltThere.{built}
 use Rattle.cg_agree.proofs.DeadKept.{said-by}
@@ -62,8 +63,8 @@ pub has-begun : (c d : Chronicle) (p conf : ℕ) (heard : List Summary) (r new' 
 has-begun c d p conf heard r new' greens i begins moved handed =
     let e = small_step c (Hands p) in
     let n = hands-now c p i handed.may in
-    let was : r ≡ n.replica = some-is r n.replica (sym begins.up ∙ running-now c p i n) in
-    let now : new' ≡ new c p i n = some-is new' (new c p i n) (sym moved ∙ ap (λ (x : Chronicle). replica_of x.world p) handed.step ∙ up-now c p i handed.may n) in
+    let was : r ≡ n.replica = same_Some r n.replica (sym begins.up ∙ running-now c p i n) in
+    let now : new' ≡ new c p i n = same_Some new' (new c p i n) (sym moved ∙ ap (λ (x : Chronicle). replica_of x.world p) handed.step ∙ up-now c p i handed.may n) in
     let exchanging : is_exchanging n.replica.state ≡ true = subst (λ (o : Option Replica). IfSome o (λ r. is_exchanging r.state ≡ true)) (running-now c p i n) handed.exchanging in
     let end : AtPlanEnd c p n.replica conf heard = subst (λ (x : Replica). AtPlanEnd c p x conf heard) was begins.end in
     let begun : HasAttempted conf heard n.replica (new c p i n) = subst (λ (x : Replica). HasAttempted conf heard x (new c p i n)) was (subst (HasAttempted conf heard r) now begins.begun) in

@@ -5,6 +5,7 @@ use Rattle.std.specs.Option.{option_map_or}
 use Rattle.std.proofs.lemmas.Bool.{cases_Bool, cond-true, cond-false, and_parts, and_from, not-true, ne_eqb, false_from_ne_true}
 use Rattle.cg_base.specs.declared.weighted.Weighted.{Weighted}
 use Rattle.cg_base.specs.Weights.{ids}
+use Rattle.cg_base.specs.FindLaws.{found_before}
 use Rattle.cg_knowledge.specs.declared.summary.Summary.{Summary}
 use Rattle.cg_group.specs.declared.phase.Phase.{Phase}
 use Rattle.cg_group.specs.declared.phase.Phase.TheVariants.{Down, Alone, Regular, Transitional}
@@ -27,7 +28,7 @@ use Rattle.cg_agree_lemmas.specs.EntersTurn.{told-newest}
 use Rattle.cg_agree_lemmas.specs.GroupKept.{in_world, begins-step, orders-conf, receives-conf, leaving-regular}
 use Rattle.cg_agree_lemmas.specs.GroupSound.{GroupSound, phase-made}
 use Rattle.cg_agree_lemmas.specs.HandsKept.{hosted}
-use Rattle.cg_agree_lemmas.specs.Keyed.{find-append, find-none}
+use Rattle.cg_agree_lemmas.specs.Keyed.{find-none}
 use Rattle.cg_agree.proofs.MoreThere.{MembersMore, members-more, more-one}
 use Rattle.cg_agree_lemmas.specs.NextThere.{orders-now, receives-now}
 use Rattle.cg_agree_lemmas.specs.OneSteps.{OneStep, MayEnter, may-enter, turns-step, hands-step, leaves-step, enters-step, commits-step, copies-step, crashes-step, recovers-step, joins-step, may-join, coming-is_up}
@@ -127,7 +128,7 @@ told_in-enters c p now k q =
       other n = by (find test c.told) refl ∙ sym (cond-false ((k == new) && (q == p)) (Some one) (told_in c k q) n) where
         by : (o : Option Told) → find test c.told ≡ o → find test (c.told ++ one ∷ []) ≡ find test c.told
         by None e = find-none test c.told (one ∷ []) e ∙ cond-false (test one) (Some one) None (isnt n) ∙ sym e
-        by (Some t) e = find-append test c.told (one ∷ []) t e ∙ sym e
+        by (Some t) e = found_before test c.told (one ∷ []) t e ∙ sym e
 
 -- ---- the fact
 

@@ -4,6 +4,7 @@ use Rattle.std.specs.Prelude.{◌==◌, nat_le}
 use Rattle.std.specs.Option.{option_map_or}
 use Rattle.std.proofs.lemmas.Bool.{cond_both}
 use Rattle.std.proofs.lemmas.List.{append_assoc, append-nil}
+use Rattle.std.proofs.lemmas.Option.{same_Some}
 use Rattle.cg_base.specs.EachLaws.{Each-append}
 use Rattle.cg_group.specs.PlaceLaws.{at_place-append}
 use Rattle.cg_base.specs.declared.weighted.Weighted.{Weighted}
@@ -35,7 +36,6 @@ use Rattle.cg_agree.proofs.BegunKept.{start-turning, start-joins}
 use Rattle.cg_agree_lemmas.specs.SameAttempt.{KeepsAttempts, keeps-refl, keeps-then, attempts-kept}
 use Rattle.cg_agree_lemmas.specs.ReachWorld.{MoreLevels, levels-kept}
 use Rattle.cg_client.specs.Joined.{piece_count}
-use Rattle.cg_agree.proofs.AttemptsCame.{some-is}
 
 -- ---- small steps
 
@@ -247,8 +247,8 @@ known-same c a b of_a of_b same = elim of_a [
   | inr one ↦ elim of_b [
     | inl two ↦ absurd (let none = two.0 in let some = one.some in omega arith)
     | inr two ↦
-        let conf : one.conf ≡ two.conf = some-is one.conf two.conf (sym one.place ∙ ap (at_place c.levels) same ∙ two.place) in
-        let attempt : one.attempt ≡ two.attempt = some-is one.attempt two.attempt (sym one.found ∙ ap (attempt_of c) conf ∙ two.found) in
+        let conf : one.conf ≡ two.conf = same_Some one.conf two.conf (sym one.place ∙ ap (at_place c.levels) same ∙ two.place) in
+        let attempt : one.attempt ≡ two.attempt = same_Some one.attempt two.attempt (sym one.found ∙ ap (attempt_of c) conf ∙ two.found) in
         let prims : a ≡ b = one.is ∙ ap₂ (prim_of c) same attempt ∙ sym two.is in
         (ap (λ (x : Primary). x.conf) prims, ap (λ (x : Primary). x.set) prims)
   ]

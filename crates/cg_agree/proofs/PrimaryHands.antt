@@ -4,6 +4,7 @@ use Rattle.std.proofs.Common.{◌≡◌, ℕ, suc, true, false, [], ◌++◌, ta
 use Rattle.std.specs.Prelude.{◌==◌}
 use Rattle.std.proofs.lemmas.Bool.{cond-true, ne_eqb}
 use Rattle.cg_base.specs.Cuts.{index_in}
+use Rattle.cg_base.specs.FindLaws.{found_passes}
 use Rattle.cg_action.specs.declared.action.Action.{Action}
 use Rattle.cg_wire.specs.declared.message.Msg.{Msg}
 use Rattle.cg_wire.specs.declared.message.Msg.TheVariants.{Action as ActionMsg, State as StateMsg, GreenItem, RedItem, Cpc}
@@ -30,7 +31,6 @@ use Rattle.cg_agree.proofs.BeginsKept.{installed-same, hands-announced, hands-gr
 use Rattle.cg_agree.proofs.ExchangeBehind.{message-now, up-now, handed-now}
 use Rattle.cg_agree.proofs.GreenLine.{HasGreenLine, regular-state, on-line, said-before, fits-green}
 use Rattle.cg_agree.proofs.HandGreen.{HandsPrimary, green-step, green_turn, line-kept}
-use Rattle.cg_agree_lemmas.specs.HandSays.{find-holds}
 use Rattle.cg_agree_lemmas.specs.HandsNow.{HandsNow, hands-regular, new, count, behind-next, running-now}
 use Rattle.cg_agree.proofs.InstalledParts.{none-acts, installs-all}
 use Rattle.cg_agree.proofs.LevelsKept.{start-kept, installed-primary}
@@ -134,7 +134,7 @@ module _ (c : Chronicle) (p : ℕ) (i : Invariant c) (may : may_make c (Hands p)
       let by = hands-announced c p i may n done in
       let b = attempt_at d (new c p i n).held.prim.index in
       let primary = installed-primary c (Hands p) i may (start-kept c (Hands p) tt) p n.replica (new c p i n) ins done done.before attempts in
-      let conf : b.conf ≡ n.conf = eqb-true b.conf ins.conf (find-holds (λ (a : Attempt). a.conf == ins.conf) d.attempts b primary.opened) ∙ ap conf_at (sym ins.regular ∙ n.regular) in
+      let conf : b.conf ≡ n.conf = eqb-true b.conf ins.conf (found_passes (λ (a : Attempt). a.conf == ins.conf) d.attempts b primary.opened) ∙ ap conf_at (sym ins.regular ∙ n.regular) in
       let greens : greens_of d p ≡ installation b =
       hands-greens c p i n ∙ installs-all c i p n.replica ins done.before (new c p i n) by.greens ∙ sym (installed-same c (Hands p) i may (start-kept c (Hands p) tt) p n.replica (new c p i n) ins done attempts) in
       let before : (handed_talk c n.conf p).acts ≡ [] = ap (λ k. (handed_talk c k p).acts) (ap conf_at (sym n.regular ∙ ins.regular)) ∙ none-acts c i p n.replica ins done.before in

@@ -3,10 +3,12 @@ use Rattle.std.proofs.Common.{◌≡◌, ℕ, suc, Bool, true, false, not, List,
 use Rattle.std.specs.Prelude.{◌==◌}
 use Rattle.std.specs.Option.{option_map_or}
 use Rattle.std.proofs.lemmas.Bool.{cases_Bool, cond-true, cond-false, and_parts, not-true, eqb-false, ne_eqb}
+use Rattle.std.proofs.lemmas.Option.{same_Some}
 use Rattle.cg_base.specs.declared.weighted.Weighted.{Weighted}
 use Rattle.cg_base.specs.Sets.{has}
 use Rattle.cg_base.specs.Text.{is_nil}
 use Rattle.cg_base.specs.Weights.{ids}
+use Rattle.cg_base.specs.FindLaws.{found_passes}
 use Rattle.cg_action.specs.declared.action.Kind.{Kind}
 use Rattle.cg_wire.specs.declared.message.Msg.{Msg}
 use Rattle.cg_group.specs.declared.phase.Phase.{Phase}
@@ -36,7 +38,6 @@ use Rattle.cg_agree.proofs.ExchangeBehind.{up-now}
 use Rattle.cg_agree.proofs.ExchangeSmalls.{greens-turning, replica-behind, greens-behind, greens-settle, greens-request}
 use Rattle.cg_agree.proofs.GreenLine.{HasGreenLine, as-before}
 use Rattle.cg_agree_lemmas.specs.GroupKept.{leaving-regular}
-use Rattle.cg_agree_lemmas.specs.HandSays.{find-holds}
 use Rattle.cg_agree_lemmas.specs.HeldCommit.{recovered-id}
 use Rattle.cg_agree_lemmas.specs.HandsKept.{hosted}
 use Rattle.cg_agree_lemmas.specs.HandsNow.{HandsNow, hands-now, hands-regular, hand-turned, new}
@@ -58,7 +59,6 @@ use Rattle.cg_agree_lemmas.specs.TurnParts.{settle-quiet, request-quiet, newest-
 use Rattle.cg_agree_lemmas.specs.TurnAlong.{commit-same}
 use Rattle.cg_agree_lemmas.specs.ListStill.{when-from}
 use Rattle.cg_agree.proofs.ModeStates.{from-primary}
-use Rattle.cg_agree.proofs.OwedKept.{some-is}
 
 -- what a member of a primary component in its regular phase has
 abbrev pub LineAt : Chronicle → ℕ → Type 0
@@ -101,7 +101,7 @@ module _ (c : Chronicle) (i : Invariant c) where
   line-quiet : (s : Small) → may_make c s ≡ true → (p : ℕ) (r after : Replica) → replica_of c.world p ≡ Some r → replica_of (small_step c s).world p ≡ Some after → is_primary after.state ≡ is_primary r.state → after.held.prim ≡ r.held.prim →
       Stands c.world.group (small_step c s).world.group p (phase_of c.world.group p) (delivered_to c.world.group p) (is_up c.world.group p) → greens_of (small_step c s) p ≡ greens_of c p → LineAt (small_step c s) p
   line-quiet s may p r after up there primary prim stands greens new is regular =
-      let same : after ≡ new = some-is after new (sym there ∙ is) in
+      let same : after ≡ new = same_Some after new (sym there ∙ is) in
       let k = regular-now (small_step c s) (mode_fits-kept c s i may) p new is regular in
       as-before c s i may p k.0 new (record {
         old = r;
@@ -143,7 +143,7 @@ module _ (c : Chronicle) (i : Invariant c) where
       let come = newest-come g n.replica n.between in
       let there = replica-behind (coming c p) p part n.replica n.disk n.node in
       line-one (Enters p) may p (Regular (newest_conf g)) 0 true step.stands (λ q other. replica-turning (coming c p) p part q other) (λ q other. greens-turning (coming c p) p part q other)
-      (λ new is regular. absurd (let clash : true ≡ false = sym (ap is_primary regular) ∙ ap (λ (x : Replica). is_primary x.state) (some-is new (part (begin n.replica)).replica (sym is ∙ there)) ∙ ap is_primary come.state in cc))
+      (λ new is regular. absurd (let clash : true ≡ false = sym (ap is_primary regular) ∙ ap (λ (x : Replica). is_primary x.state) (same_Some new (part (begin n.replica)).replica (sym is ∙ there)) ∙ ap is_primary come.state in cc))
 
   leaves-line : (p : ℕ) (set : List ℕ) (own : ℕ) (places : List ℕ) → may_make c (Leaves p set own places) ≡ true → (q : ℕ) → LineAt (small_step c (Leaves p set own places)) q
   unfolding small_step
@@ -268,7 +268,7 @@ module _ (c : Chronicle) (i : Invariant c) where
 
         own : (n : HandsNow c p) → LineAt (small_step c (Hands p)) p
         own n x is regular =
-            let same : new c p i n ≡ x = some-is (new c p i n) x (sym (up-now c p i may n) ∙ is) in
+            let same : new c p i n ≡ x = same_Some (new c p i n) x (sym (up-now c p i may n) ∙ is) in
             subst (λ (r : Replica). HasGreenLine (small_step c (Hands p)) p (attempt_at (small_step c (Hands p)) r.held.prim.index)) same
             (by n (ap (λ (r : Replica). r.state) same ∙ regular) (hand-turned c p i n))
 
@@ -328,7 +328,7 @@ primary_greens-kept c s i may p = at (replica_of d.world p) refl (mode_data-kept
       let shape : IsAttempt d k b = subst (λ (o : Option Attempt). IfSome o (IsAttempt d k)) in_it.opened (attempt_shape-kept c s i may (talk_legal-kept c s i may) k) in
       let installed : has b.installed p ≡ true = ap (has b.installed) (sym mode.id) ∙ counted.installed ∙ primary in
       record {
-        conf = eqb-true b.conf k (find-holds (λ (a : Attempt). a.conf == k) d.attempts b in_it.opened);
+        conf = eqb-true b.conf k (found_passes (λ (a : Attempt). a.conf == k) d.attempts b in_it.opened);
         member = all-at (has b.set) b.entered p shape.entered (all-at (has b.entered) b.installed p shape.installed installed);
         greens = handed-at d p b r.state (line-behind c s i may p r up);
       }

@@ -21,6 +21,7 @@ use Rattle.cg_plan.specs.Progress.{is_done}
 use Rattle.cg_plan.specs.Parts.{size_of}
 use Rattle.cg_base.specs.Lists.{Each}
 use Rattle.cg_base.specs.EachLaws.{Each-weaker}
+use Rattle.cg_base.specs.ListLaws.{slice_get-behind, slice_get-front}
 use Rattle.cg_model.specs.Talk.{Talk, is_full, is_through, due_from, due_items}
 use Rattle.cg_agree_lemmas.specs.DueAll.{item_by, items_by, by-sender, take-beyond}
 use Rattle.cg_agree_lemmas.specs.EndCovers.{OfEach}
@@ -33,16 +34,6 @@ use Rattle.cg_agree_lemmas.specs.SaidSoFar.{items_so_far}
 -- ---- lists
 
 module _ {X : Type 0} where
-  slice_get-left : (xs ys : List X) (k : ℕ) → k < length xs → slice_get (xs ++ ys) k ≡ slice_get xs k
-  slice_get-left [] ys k lt = absurd (omega arith)
-  slice_get-left (x ∷ xs) ys zero lt = refl
-  slice_get-left (x ∷ xs) ys (suc k) lt = slice_get-left xs ys k (omega arith)
-
-  slice_get-right : (xs ys : List X) (k : ℕ) → length xs ≤ k → slice_get (xs ++ ys) k ≡ slice_get ys (k - length xs)
-  slice_get-right [] ys k le = let whole : k - 0 ≡ k = omega arith in rw whole refl
-  slice_get-right (x ∷ xs) ys zero le = absurd (omega arith)
-  slice_get-right (x ∷ xs) ys (suc k) le = let same : suc k - suc (length xs) ≡ k - length xs = omega arith in rw same (slice_get-right xs ys k (omega arith))
-
   filter_map-fewer : {Y : Type 0} (f : X → Option Y) (xs : List X) → length (filter_map f xs) ≤ length xs
   filter_map-fewer f [] = omega arith
   filter_map-fewer f (x ∷ xs) = at (f x) (filter_map f xs) (filter_map-fewer f xs) where
@@ -94,12 +85,12 @@ module _ (turn : SentPart) (turns : List SentPart) (k : ℕ) (s : PlanSent) (the
   pub of-first : k < size_of turn.part → s.sender ≡ turn.sender
   of-first few =
       let size = length-turn turn in
-      sender-there turn.sender (items_of turn.part) k s (sym (slice_get-left (items_of_turn turn) (items_of_plan turns) k (omega arith)) ∙ joined)
+      sender-there turn.sender (items_of turn.part) k s (sym (slice_get-front (items_of_turn turn) (items_of_plan turns) k (omega arith)) ∙ joined)
 
   pub of-later : size_of turn.part ≤ k → slice_get (items_of_plan turns) (k - size_of turn.part) ≡ Some s
   of-later all =
       let size = length-turn turn in
-      ap (λ n. slice_get (items_of_plan turns) (k - n)) (sym size) ∙ sym (slice_get-right (items_of_turn turn) (items_of_plan turns) k (omega arith)) ∙ joined
+      ap (λ n. slice_get (items_of_plan turns) (k - n)) (sym size) ∙ sym (slice_get-behind (items_of_turn turn) (items_of_plan turns) k (omega arith)) ∙ joined
 
 -- an item of a plan is one of a part
 item-in : (M : ℕ → Type 0) (turns : List SentPart) (k : ℕ) (s : PlanSent) → Each (λ (turn : SentPart). M turn.sender) turns → slice_get (items_of_plan turns) k ≡ Some s → M s.sender

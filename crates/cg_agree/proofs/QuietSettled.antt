@@ -9,6 +9,7 @@ use Rattle.cg_base.specs.declared.action_id.ActionId.{ActionId}
 use Rattle.cg_base.specs.Cuts.{index_in}
 use Rattle.cg_base.specs.Sets.{has, common}
 use Rattle.cg_base.specs.SetLaws.{has-common, has-without}
+use Rattle.cg_base.specs.MemberLaws.{list_all_in}
 use Rattle.cg_action.specs.declared.action.Action.{Action}
 use Rattle.cg_knowledge.specs.declared.summary.Summary.{Summary}
 use Rattle.cg_knowledge.specs.Summaries.{senders, gone, remaining, most_updated}
@@ -30,7 +31,6 @@ use Rattle.cg_model.specs.FactsGreens.{IsOnLine, IsHandedGreen}
 use Rattle.cg_model.specs.Facts.{Invariant}
 use Rattle.cg_agree.proofs.DeadKept.{remaining-senders}
 use Rattle.cg_agree_lemmas.specs.HeldMarks.{counted}
-use Rattle.cg_agree_lemmas.specs.ReachFacts.{all-from}
 use Rattle.cg_agree.proofs.QuietTalk.{quiet-at, regular-there, handed-all, up-there, told-there, member-of, all-announced, state-there, summaries-are}
 use Rattle.cg_agree.proofs.QuietKnown.{known-in}
 use Rattle.cg_disk_records.specs.Holds.{cut_behind}
@@ -193,8 +193,8 @@ module _ (c : Chronicle) (i : Invariant c) (kept : BufferEmpty c) (conf : ℕ) (
       let heard = sym (summaries-are c i conf some quiet) in
       let stays : (p : ℕ) → has (remaining (summaries_in c.world conf)) p ≡ true → has (remaining talk.heard) p ≡ true = λ p is. ap (λ h. has (remaining h) p) heard ∙ is in
       record {
-        left = subst (λ h. list_all (is_left c.world) (gone h) ≡ true) heard (all-from (is_left c.world) (gone talk.heard) gone-left);
-        states = subst (λ h. list_all (passes_at c.world (settles h)) (remaining h) ≡ true) heard (all-from (passes_at c.world (settles talk.heard)) (remaining talk.heard) settled-at);
+        left = subst (λ h. list_all (is_left c.world) (gone h) ≡ true) heard (list_all_in (is_left c.world) (gone talk.heard) gone-left);
+        states = subst (λ h. list_all (passes_at c.world (settles h)) (remaining h) ≡ true) heard (list_all_in (passes_at c.world (settles talk.heard)) (remaining talk.heard) settled-at);
         greens = λ p q r s at_p at_q. one-count p q r s (stays p at_p.0) at_p.1 (stays q at_q.0) at_q.1;
         actions = λ p r id at_p one. knows-as p r id (stays p at_p.0) at_p.1;
       }

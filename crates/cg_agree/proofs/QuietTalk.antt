@@ -4,7 +4,7 @@ use Rattle.std.proofs.Common.{◌≡◌, ℕ, ◌<◌, Bool, true, false, cond, 
 use Rattle.std.specs.Prelude.{◌==◌}
 use Rattle.std.specs.List.{list_all}
 use Rattle.std.proofs.lemmas.Bool.{cases_Bool, cond-true, and_parts, and_from, or_left, or_right, ne_eqb}
-use Rattle.std.proofs.lemmas.List.{append_assoc, take_all}
+use Rattle.std.proofs.lemmas.List.{append_assoc, take_all, nil_from_length}
 use Rattle.cg_base.specs.Lists.{above_up_to}
 use Rattle.cg_base.specs.Sets.{has}
 use Rattle.cg_base.specs.SetLaws.{has-with_member, is_within-from}
@@ -127,10 +127,6 @@ module _ (set : List ℕ) (conf q : ℕ) where
 
 -- ---- a member
 
-empty : {X : Type 0} (xs : List X) → length xs ≡ 0 → xs ≡ []
-empty [] e = refl
-empty (x ∷ xs) e = absurd (omega arith)
-
 nobody-told : (k : ℕ) → has (senders []) k ≡ true → ⊥
 unfolding senders
 nobody-told k e = let clash : false ≡ true = e in cc
@@ -169,7 +165,7 @@ module _ (c : Chronicle) (i : Invariant c) (conf : ℕ) (some : 0 < conf) (quiet
       let inner = and_parts (regular_in (phase_of g p) == conf) (length (unordered_of g p) == 0) outer.0 in
       record {
         phase = regular-of (phase_of g p) conf some inner.0;
-        waits = empty (unordered_of g p) (eqb-true (length (unordered_of g p)) 0 inner.1);
+        waits = nil_from_length (unordered_of g p) (eqb-true (length (unordered_of g p)) 0 inner.1);
         handed = eqb-true (delivered_to g p) (length list) outer.1;
       }
 

@@ -4,9 +4,11 @@ use Rattle.std.proofs.Common.{◌≡◌, ℕ, zero, suc, ◌≤◌, ◌<◌, tru
 use Rattle.std.specs.Prelude.{option_and_then}
 use Rattle.std.specs.Option.{option_map_or}
 use Rattle.std.proofs.lemmas.Bool.{or_cases, false_from_ne_true}
+use Rattle.std.proofs.lemmas.Option.{same_Some}
 use Rattle.cg_base.specs.Lists.{at_place}
 use Rattle.cg_base.specs.Sets.{has}
 use Rattle.cg_base.specs.SetLaws.{has-with_member}
+use Rattle.cg_base.specs.MemberLaws.{list_any_in}
 use Rattle.cg_group.specs.PlaceLaws.{at_place-append}
 use Rattle.cg_model.specs.Chronicle.{Attempt, Chronicle}
 use Rattle.cg_model.specs.Fronts.{Front}
@@ -19,10 +21,10 @@ use Rattle.cg_model.specs.Played.{AtRest}
 use Rattle.cg_model.specs.Small.{Small, small_step}
 use Rattle.cg_model.specs.Smalls.{may_make}
 use Rattle.cg_agree.proofs.AttemptSteps.{attempt-step}
-use Rattle.cg_agree.proofs.AttemptsCame.{Came, Stayed, WasLeft, WasEntered, WasInstalled, WasMade, came, some-is}
+use Rattle.cg_agree.proofs.AttemptsCame.{Came, Stayed, WasLeft, WasEntered, WasInstalled, WasMade, came}
 use Rattle.cg_agree_lemmas.specs.AttemptsGrow.{Grown, attempts-grow}
 use Rattle.cg_agree.proofs.CountsMove.{count-move, found-conf}
-use Rattle.cg_agree.proofs.DeadKept.{said-attempt, any-of}
+use Rattle.cg_agree.proofs.DeadKept.{said-attempt}
 use Rattle.cg_agree.proofs.InstalledIndexKept.{same-installed}
 use Rattle.cg_agree_lemmas.specs.Reach.{greatest-least, greatest-bounds, greatest-grows}
 use Rattle.cg_agree_lemmas.specs.ReachFacts.{all-at}
@@ -73,7 +75,7 @@ module _ (c : Chronicle) (s : Small) (i : Invariant c) (may : may_make c s ≡ t
         (λ q is. (grown.installed q is, (count-move c s i may rest out conf a b found now q (entered q is)).0))
 
     same-found : (x : Attempt) → attempt_of c conf ≡ Some x → x ≡ a
-    same-found x e = some-is x a (sym e ∙ found)
+    same-found x e = same_Some x a (sym e ∙ found)
 
     -- where nobody is regular nobody installs
     none-new : is_live c a ≡ false → (q : ℕ) → has b.installed q ≡ true → has a.installed q ≡ true
@@ -90,7 +92,7 @@ module _ (c : Chronicle) (s : Small) (i : Invariant c) (may : may_make c s ≡ t
             | inl old ↦ ap (λ (x : Attempt). has x.installed q) (sym same) ∙ old
             | inr mine ↦ absurd (
                 let regular : is_regular_in c a.conf p ≡ true = ap (λ k. is_regular_in c k p) (found-conf c conf a found ∙ here) ∙ ap (is_regular_at ins.conf) ins.regular ∙ eq-eqb ins.conf ins.conf refl in
-                let live = any-of (is_regular_in c a.conf) a.set p (ap (λ (x : Attempt). has x.set p) (sym same) ∙ ins.member) regular in
+                let live = list_any_in (is_regular_in c a.conf) a.set p (ap (λ (x : Attempt). has x.set p) (sym same) ∙ ins.member) regular in
                 let clash : true ≡ false = sym live ∙ dead in cc)
           ]
 
@@ -99,7 +101,7 @@ module _ (c : Chronicle) (s : Small) (i : Invariant c) (may : may_make c s ≡ t
         let was = none-new dead q is in
         let member = all-at (has a.set) a.entered q shape.entered (entered q was) in
         let out-there : is_regular_in c conf q ≡ false = false_from_ne_true (is_regular_in c conf q)
-        (λ regular. (let clash : true ≡ false = sym (any-of (is_regular_in c a.conf) a.set q member (ap (λ k. is_regular_in c k q) (found-conf c conf a found) ∙ regular)) ∙ dead in cc)) in
+        (λ regular. (let clash : true ≡ false = sym (list_any_in (is_regular_in c a.conf) a.set q member (ap (λ k. is_regular_in c k q) (found-conf c conf a found) ∙ regular)) ∙ dead in cc)) in
         let count = (count-move c s i may rest out conf a b found now q (entered q was)).1 out-there in
         let most = greatest-bounds (count_in c a) a.installed q was in
         omega (arith, count, most))

@@ -3,6 +3,7 @@ use Rattle.std.proofs.Common.{◌⊎◌, ◌≡◌, ℕ, ◌≤◌, true, false,
 use Rattle.std.specs.Prelude.{◌==◌, option_and_then}
 use Rattle.std.specs.Option.{option_map_or}
 use Rattle.std.proofs.lemmas.Bool.{cases_Bool, cond-true, cond-false, and_parts, not-true}
+use Rattle.std.proofs.lemmas.Option.{same_Some}
 use Rattle.cg_base.specs.Text.{is_nil}
 use Rattle.cg_base.specs.Weights.{ids}
 use Rattle.cg_members.specs.Servers.{is_server}
@@ -66,16 +67,13 @@ runs-in c p r disk node = ap (λ (o : Option Node). option_and_then (λ s. runni
 records-none : (c d : Chronicle) → d.world.nodes ≡ c.world.nodes → RecordsMove c d
 records-none c d nodes p h e = Still h (ap (λ xs. core_in (find (λ (s : Node). s.id == p) xs)) (sym nodes) ∙ e) (omega arith) refl
 
-held-is : (h k : Held) → Some h ≡ Some k → h ≡ k
-held-is h k e = ap (λ o. option_map_or (λ x. x) o h) e
-
 -- one replica has another life
 records-moved : (c d : Chronicle) (p : ℕ) (life : NodeState) → ((q : ℕ) → node_of d.world q ≡ cond (p == q) (Some (record { id = p; life = life })) (node_of c.world q)) →
     RecordMove c p (held_in life) → RecordsMove c d
 records-moved c d p life node move q h e = elim (cases_Bool (p == q)) [
   | inl same ↦
       let now : Some (held_in life) ≡ Some h = sym (ap core_in (node q ∙ cond-true (p == q) (Some (record { id = p; life = life })) (node_of c.world q) same)) ∙ e in
-      subst (λ (x : Held). RecordMove c q x) (held-is (held_in life) h now) (subst (λ n. RecordMove c n (held_in life)) (eqb-true p q same) move)
+      subst (λ (x : Held). RecordMove c q x) (same_Some (held_in life) h now) (subst (λ n. RecordMove c n (held_in life)) (eqb-true p q same) move)
   | inr apart ↦ Still h (sym (ap core_in (node q ∙ cond-false (p == q) (Some (record { id = p; life = life })) (node_of c.world q) apart)) ∙ e) (omega arith) refl
 ]
 

@@ -4,6 +4,7 @@ use Rattle.std.proofs.Common.{◌≡◌, ℕ, ◌≤◌, false, List, [], ◌∷
 use Rattle.cg_base.specs.Cuts.{index_in}
 use Rattle.cg_action.specs.declared.action.Action.{Action}
 use Rattle.cg_base.specs.Lists.{Each}
+use Rattle.cg_base.specs.EachLaws.{Each-front}
 use Rattle.cg_client.specs.Replica.{Replica}
 use Rattle.cg_model.specs.FactsBooks.{IsActionShown, KeepsUnshown, MadeFits, OrderFits, NodeIsDown, NodeShown}
 use Rattle.cg_model.specs.World.{NodeState, Up, Down, Node, World, no_world, running, has_begun, node_of, replica_of}
@@ -28,10 +29,6 @@ use Rattle.cg_agree.proofs.RunForward.{IsStepOf, of-run}
 -- what is red at a replica that is up was shown as made
 abbrev pub AreRedsShown : World → Type 0
 AreRedsShown w = (p : ℕ) (r : Replica) → replica_of w p ≡ Some r → Each (λ (a : Action). a.id.index ≤ index_in w.made a.id.creator) r.held.queue.reds
-
-pub each-front : {X : Type 0} (P : X → Type 0) (xs ys : List X) → Each P (xs ++ ys) → Each P xs
-each-front P [] ys each = tt
-each-front P (x ∷ xs) ys each = (each.0, each-front P xs ys each.1)
 
 module _ (c : Chronicle) (w : World) (stands : StandsBeside c w) (fits : MadeFits w) (order : OrderFits c w) where
   not-begun : (q : ℕ) → node_of w q ≡ None → has_begun c.world q ≡ false
@@ -94,7 +91,7 @@ module _ (c : Chronicle) (w : World) (stands : StandsBeside c w) (fits : MadeFit
     reds-low =
         let here : replica_of c.world p ≡ Some r = sym (stands.same.running p) ∙ up in
         let booked = subst (λ (o : Option Replica). IfSome o (λ r. AreBooked c (r.held.queue.reds ++ r.held.own))) here (stands.facts.replica.made_once.in_memory p) in
-        each-low r.held.queue.reds (each-front (IsNamed c.book) r.held.queue.reds r.held.own (each-booked c (r.held.queue.reds ++ r.held.own) booked)) (others-low r.held.queue.reds reds-of)
+        each-low r.held.queue.reds (Each-front (IsNamed c.book) r.held.queue.reds r.held.own (each-booked c (r.held.queue.reds ++ r.held.own) booked)) (others-low r.held.queue.reds reds-of)
 
 -- ---- runs
 

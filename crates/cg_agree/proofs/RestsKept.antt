@@ -5,6 +5,8 @@ use Rattle.std.specs.Option.{option_map_or}
 use Rattle.std.proofs.lemmas.Bool.{cases_Bool, cond_both, and_parts}
 use Rattle.cg_base.specs.Cuts.{index_in, raise}
 use Rattle.cg_base.specs.Sets.{has}
+use Rattle.cg_base.specs.ListLaws.{at_place-past}
+use Rattle.cg_base.specs.FindLaws.{found_passes}
 use Rattle.cg_action.specs.declared.action.Action.{Action}
 use Rattle.cg_queue.specs.Queue.{names_of}
 use Rattle.cg_records.specs.declared.vulnerable.Vulnerable.{Vulnerable}
@@ -14,7 +16,6 @@ use Rattle.cg_wire.specs.declared.message.Msg.{Msg}
 use Rattle.cg_group.specs.declared.phase.Phase.{Phase}
 use Rattle.cg_group.specs.declared.phase.Phase.TheVariants.{Down as DownPhase, Alone, Regular, Transitional}
 use Rattle.cg_group.specs.State.{Configuration, GroupState, no_configuration, phase_of, configuration}
-use Rattle.cg_group.specs.PlaceLaws.{at_place-past}
 use Rattle.cg_client.specs.Replica.{Held, State, RegPrim, TransPrim, ExchangeStates, ExchangeActions, Construct, No, Un, NonPrim, Left, Replica}
 use Rattle.cg_schedule.specs.declared.event.Event.{Event}
 use Rattle.cg_model.specs.World.{NodeState, Up, Down, Node, World, running, node_of, replica_of}
@@ -37,7 +38,6 @@ use Rattle.cg_disk_records.specs.Holds.{run_on, cut_behind}
 use Rattle.cg_disk_records.specs.RunLaws.{cut_behind-append, run_on-append}
 use Rattle.cg_disk_records.specs.CutRaiseLaws.{rising-behind, rising-raise, index-same, behind-rises}
 use Rattle.cg_agree_lemmas.specs.HeldMarks.{IsOneself, rising-red}
-use Rattle.cg_agree_lemmas.specs.HandSays.{find-holds}
 use Rattle.cg_agree.proofs.DeadKept.{said-attempt}
 use Rattle.cg_agree.proofs.MadeOfSmalls.{made-of-smalls}
 use Rattle.cg_agree_lemmas.specs.AttemptNew.{HasNoRecordYet}
@@ -61,7 +61,7 @@ module _ (c : Chronicle) (i : Invariant c) (q : ℕ) (r : Replica) (here : repli
         IfSome o (λ a. (has_entered a r.held.id ≡ false) × IsCounted a r) → ⊥
     of_attempt v None found e same is counted = is
     of_attempt v (Some a) found e same is counted =
-        let named : a.conf ≡ conf = eqb-true a.conf conf (find-holds (λ (a : Attempt). a.conf == conf) c.attempts a found) in
+        let named : a.conf ≡ conf = eqb-true a.conf conf (found_passes (λ (a : Attempt). a.conf == conf) c.attempts a found) in
         let record_there : is_record_of a.conf r.held.vulnerable ≡ true = ap₂ is_record_of named e ∙ same in
         let clash : true ≡ false = sym (ap₂ (λ x y. x && not y) record_there counted.0) ∙ counted.1.record_of in
         cc

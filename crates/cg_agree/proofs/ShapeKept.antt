@@ -4,6 +4,8 @@ use Rattle.std.specs.Prelude.{◌==◌, option_and_then}
 use Rattle.std.proofs.lemmas.Bool.{cond_both, and_from, or_cases}
 use Rattle.cg_base.specs.Sets.{has, is_within, with_member}
 use Rattle.cg_base.specs.SetLaws.{has-with_member}
+use Rattle.cg_base.specs.FindLaws.{found_passes}
+use Rattle.cg_base.specs.MemberLaws.{list_all_in}
 use Rattle.cg_queue.specs.Queue.{names_of}
 use Rattle.cg_vote.specs.Quorum.{is_quorum}
 use Rattle.cg_knowledge.specs.declared.summary.Summary.{Summary}
@@ -24,8 +26,8 @@ use Rattle.cg_model.specs.Facts.{Invariant}
 use Rattle.cg_model.specs.Small.{Small, small_step, with_leaver, with_entrant, with_installer}
 use Rattle.cg_model.specs.Smalls.{may_make}
 use Rattle.cg_agree_lemmas.specs.FrontFacts.{take-Front}
-use Rattle.cg_agree_lemmas.specs.HandSays.{find-holds, remains-unless_gone}
-use Rattle.cg_agree_lemmas.specs.ReachFacts.{all-at, all-from}
+use Rattle.cg_agree_lemmas.specs.HandSays.{remains-unless_gone}
+use Rattle.cg_agree_lemmas.specs.ReachFacts.{all-at}
 use Rattle.cg_agree_lemmas.specs.ReachSteps.{goes_on-kept}
 use Rattle.cg_agree_lemmas.specs.ReachWorld.{levels-kept}
 use Rattle.cg_agree_lemmas.specs.SameAttempt.{SameAttempt, same-refl}
@@ -65,13 +67,13 @@ remains-set c p conf heard r new' begins =
 
 -- one more member
 within-more : (set within : List ℕ) (p : ℕ) → is_within set within ≡ true → has within p ≡ true → is_within (with_member set p) within ≡ true
-within-more set within p is member = all-from (has within) (with_member set p) (λ q in_more. elim (or_cases (has set q) (eqb p q) (sym (has-with_member set p q) ∙ in_more)) [
+within-more set within p is member = list_all_in (has within) (with_member set p) (λ q in_more. elim (or_cases (has set q) (eqb p q) (sym (has-with_member set p q) ∙ in_more)) [
   | inl old ↦ all-at (has within) set q is old
   | inr now ↦ ap (has within) (sym (eqb-true p q now)) ∙ member
 ])
 
 within-wider : (bits xs ys : List ℕ) → ((q : ℕ) → has xs q ≡ true → has ys q ≡ true) → is_within bits xs ≡ true → is_within bits ys ≡ true
-within-wider bits xs ys more is = all-from (has ys) bits (λ q in_bits. more q (all-at (has xs) bits q is in_bits))
+within-wider bits xs ys more is = list_all_in (has ys) bits (λ q in_bits. more q (all-at (has xs) bits q is in_bits))
 
 -- who installs an attempt has entered it
 entered-installing : (c : Chronicle) (i : Invariant c) (p : ℕ) (r : Replica) (ins : Installing c p r) → is_attempting r.state ≡ true → has ins.a.entered p ≡ true
@@ -134,7 +136,7 @@ module _ (c : Chronicle) (s : Small) (i : Invariant c) (may : may_make c s ≡ t
       }
     where
       conf-is : (conf : ℕ) (a : Attempt) → attempt_of c conf ≡ Some a → a.conf ≡ conf
-      conf-is conf a e = eqb-true a.conf conf (find-holds (λ (a : Attempt). a.conf == conf) c.attempts a e)
+      conf-is conf a e = eqb-true a.conf conf (found_passes (λ (a : Attempt). a.conf == conf) c.attempts a e)
 
       as-greens : (conf : ℕ) (a b : Attempt) → attempt_of c conf ≡ Some a → b.greens ≡ a.greens → IsSomeWith (best_told c conf (whole_talk c conf).heard) (λ best. a.greens ≡ best.greens) →
           IsSomeWith (best_told c conf (whole_talk c conf).heard) (λ best. b.greens ≡ best.greens)

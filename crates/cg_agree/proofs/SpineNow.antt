@@ -5,6 +5,7 @@ use Rattle.std.specs.Prelude.{◌==◌}
 use Rattle.std.specs.Option.{option_map_or}
 use Rattle.std.specs.List.{cons_option}
 use Rattle.std.proofs.lemmas.Bool.{cases_Bool, cases_eq, cond-true, cond-false}
+use Rattle.std.proofs.lemmas.Option.{same_Some}
 use Rattle.cg_base.specs.Lists.{at_place}
 use Rattle.cg_action.specs.declared.action.Action.{Action}
 use Rattle.cg_queue.specs.Queue.{names_of}
@@ -25,7 +26,7 @@ use Rattle.cg_model.specs.Played.{AtRest}
 use Rattle.cg_model.specs.Small.{Small, small_step, with_installer}
 use Rattle.cg_model.specs.Smalls.{may_make}
 use Rattle.cg_agree.proofs.AttemptSteps.{Installing, AttemptStep, Same, Goes, Begun, Installed, attempt-step}
-use Rattle.cg_agree.proofs.AttemptsCame.{ins-conf, some-is}
+use Rattle.cg_agree.proofs.AttemptsCame.{ins-conf}
 use Rattle.cg_agree_lemmas.specs.AttemptsTurn.{at_conf, installing-now}
 use Rattle.cg_agree.proofs.BookedParts.{booked-left, booked-both}
 use Rattle.cg_agree_lemmas.specs.FrontFacts.{Front-trans, Front-append, Front-take}
@@ -45,7 +46,7 @@ booked-front c (x ∷ xs) (y ∷ ys) front are = (subst (λ (a : Action). booked
 pub front-named : (c : Chronicle) (xs ys : List Action) → AreBooked c xs → AreBooked c ys → Front (names_of xs) (names_of ys) → Front xs ys
 front-named c [] ys one two front = tt
 front-named c (x ∷ xs) [] one two front = absurd front
-front-named c (x ∷ xs) (y ∷ ys) one two front = (some-is x y (sym one.0 ∙ ap (booked c) front.0 ∙ two.0), front-named c xs ys one.1 two.1 front.1)
+front-named c (x ∷ xs) (y ∷ ys) one two front = (same_Some x y (sym one.0 ∙ ap (booked c) front.0 ∙ two.0), front-named c xs ys one.1 two.1 front.1)
 
 -- the actions of a talk are among the actions in its messages
 acts-booked : (c : Chronicle) (list : List (Sent Msg)) → AreBooked c (filter_map (λ s. action_in s.message) list) → AreBooked c (acts_in list)

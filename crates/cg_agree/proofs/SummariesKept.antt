@@ -8,6 +8,8 @@ use Rattle.cg_base.specs.Cuts.{index_in}
 use Rattle.cg_base.specs.Lists.{at_place}
 use Rattle.cg_base.specs.Weights.{ids}
 use Rattle.cg_base.specs.Text.{is_nil}
+use Rattle.cg_base.specs.ListLaws.{at_place-past, length-dropped}
+use Rattle.cg_base.specs.FindLaws.{found_passes}
 use Rattle.cg_action.specs.declared.action.Action.{Action}
 use Rattle.cg_members.specs.Servers.{members_of}
 use Rattle.cg_queue.specs.Queue.{names_of}
@@ -15,7 +17,6 @@ use Rattle.cg_records.specs.declared.primary.Primary.{Primary}
 use Rattle.cg_records.specs.declared.vulnerable.Vulnerable.{Vulnerable}
 use Rattle.cg_wire.specs.declared.message.Msg.{Msg}
 use Rattle.cg_group.specs.State.{Configuration, configuration, no_configuration}
-use Rattle.cg_group.specs.PlaceLaws.{at_place-past}
 use Rattle.cg_client.specs.Replica.{Held, State, RegPrim, TransPrim, ExchangeStates, ExchangeActions, Construct, No, Un, NonPrim, Left, Replica}
 use Rattle.cg_client.specs.Summary.{summary_of}
 use Rattle.cg_model.specs.World.{Up, Node, running, node_of, replica_of}
@@ -33,7 +34,6 @@ use Rattle.cg_agree_lemmas.specs.ChronicleFacts.{node_of-set}
 use Rattle.cg_agree_lemmas.specs.CoresKept.{greens-turn}
 use Rattle.cg_agree_lemmas.specs.OneselfWorld.{oneself-of}
 use Rattle.cg_agree_lemmas.specs.OneselfSmalls.{enters-oneself}
-use Rattle.cg_agree_lemmas.specs.HandSays.{find-holds}
 use Rattle.cg_agree.proofs.DeadKept.{said-attempt}
 use Rattle.cg_agree.proofs.BegunKept.{nothing-before}
 use Rattle.cg_agree_lemmas.specs.ToldKept.{IsUntold, told-same, told_in-same}
@@ -153,15 +153,12 @@ module _ (c : Chronicle) (i : Invariant c) (p : ℕ) (may : may_make c (Enters p
 
   -- ---- its summary fits
 
-  counts : (n : ℕ) (xs : List Action) → n ≤ length xs → n + length (drop n xs) ≡ length xs
-  counts n xs le = let short = length-drop n xs in omega arith
-
   pub entry-fits : IsSummary entered (entry_told c p now.replica)
   unfolding summary_of
   entry-fits =
       let is = core-entered in
       record {
-        count = ap (λ xs. new_held.queue.white + length xs) is.made_of.kept ∙ counts new_held.queue.white (greens_of c p) is.made_of.white;
+        count = ap (λ xs. new_held.queue.white + length xs) is.made_of.kept ∙ length-dropped new_held.queue.white (greens_of c p) is.made_of.white;
         green_cut = is.made_of.green_cut;
         left = ap (λ m. m.left) is.made_of.members ∙ ap (λ st. (members_of st (greens_of c p)).left) (sym (start-kept c (Enters p) tt));
         red_cut = λ creator. subst (λ cut. index_in new_held.queue.green_cut creator ≤ index_in cut creator) (sym is.made_of.red_cut)
@@ -211,7 +208,7 @@ module _ (c : Chronicle) (i : Invariant c) (p : ℕ) (may : may_make c (Enters p
       found : (o : Option Attempt) → attempt_of c conf ≡ o → IsSomeWith o (λ a. (a.from ≡ level) × (is_installed a ≡ true)) → (attempt_at c (suc level)).conf < next
       found None f is = absurd is
       found (Some a) f is =
-          let named : a.conf ≡ conf = eqb-true a.conf conf (find-holds (λ (a : Attempt). a.conf == conf) c.attempts a f) in
+          let named : a.conf ≡ conf = eqb-true a.conf conf (found_passes (λ (a : Attempt). a.conf == conf) c.attempts a f) in
           let here : attempt_at c (suc level) ≡ a = ap (λ (o : Option ℕ). option_map_or (λ a. a) (option_and_then (attempt_of c) o) (no_attempt c.start)) e ∙ ap (λ (o : Option Attempt). option_map_or (λ a. a) o (no_attempt c.start)) f in
           subst (λ n. n < next) (sym (ap (λ (x : Attempt). x.conf) here ∙ named)) (earlier-attempt conf a f)
 

@@ -4,6 +4,7 @@ use Rattle.std.specs.Prelude.{◌==◌}
 use Rattle.std.specs.Option.{option_map_or}
 use Rattle.std.proofs.lemmas.Bool.{cond-true, false_from_ne_true, and_parts, ne_eqb, not-true}
 use Rattle.cg_base.specs.Text.{is_nil}
+use Rattle.cg_base.specs.BoolLaws.{cond_twice}
 use Rattle.cg_wire.specs.declared.message.Msg.{Msg}
 use Rattle.cg_wire.specs.declared.message.Msg.TheVariants.{State as StateMsg}
 use Rattle.cg_group.specs.declared.phase.Phase.{Phase}
@@ -108,10 +109,6 @@ module _ (c : Chronicle) (p : ℕ) (sound : PhaseSound c) (now : EntersNow c p) 
       waiting q true y = ap (unordered_of entered) (eqb-true q p y) ∙ sym (append-nil (unordered_of entered p))
       waiting q false n = refl
 
-  twice : {X : Type 0} (b : Bool) (x y z : X) → cond b x (cond b y z) ≡ cond b x z
-  twice true x y z = refl
-  twice false x y z = refl
-
   comes : Comes c d p conf (entry_told c p now.replica) u.replica
   comes = record {
     confs = λ k. moved.conf k ∙ first.conf k;
@@ -119,8 +116,8 @@ module _ (c : Chronicle) (p : ℕ) (sound : PhaseSound c) (now : EntersNow c p) 
     member = now.may.member;
     was_out = was-out;
     phase = λ q. moved.phase q ∙ first.phase q;
-    delivered = λ q. moved.delivered q ∙ ap (cond (q == p) 0) (first.delivered q) ∙ twice (q == p) 0 0 (delivered_to g q);
-    waits = λ q. moved.waits q ∙ ap₂ (cond (q == p)) (ap₂ (λ xs ys. xs ++ ys) none-yet turn.sent) (entered-waits q) ∙ twice (q == p) (StateMsg (summary_of u.replica.held conf) ∷ []) [] (unordered_of g q);
+    delivered = λ q. moved.delivered q ∙ ap (cond (q == p) 0) (first.delivered q) ∙ cond_twice (q == p) 0 0 (delivered_to g q);
+    waits = λ q. moved.waits q ∙ ap₂ (cond (q == p)) (ap₂ (λ xs ys. xs ++ ys) none-yet turn.sent) (entered-waits q) ∙ cond_twice (q == p) (StateMsg (summary_of u.replica.held conf) ∷ []) [] (unordered_of g q);
     told = λ k q. ap (λ (x : Chronicle). told_in x k q) (sym (enters-is c p now)) ∙ told_in-enters c p now k q;
     replica = λ q. replica-set c.world p (Up u.replica now.disk) q;
     id = summary-id c p now;

@@ -3,6 +3,7 @@ use Rattle.std.proofs.Common.{◌≡◌, ℕ, true, false, List, [], ◌∷◌, 
 use Rattle.std.specs.Prelude.{◌==◌}
 use Rattle.std.specs.Option.{option_map_or}
 use Rattle.std.proofs.lemmas.Bool.{cases_Bool, cond-true, cond-false, cond_both}
+use Rattle.cg_base.specs.FindLaws.{found_passes}
 use Rattle.cg_wire.specs.declared.message.Msg.{Msg}
 use Rattle.cg_group.specs.declared.phase.Phase.{Phase}
 use Rattle.cg_group.specs.declared.phase.Phase.TheVariants.{Transitional}
@@ -21,7 +22,6 @@ use Rattle.cg_model.specs.Small.{Receives, Commits, Leaves, small_step, turning_
 use Rattle.cg_model.specs.Smalls.{may_make}
 use Rattle.cg_agree_lemmas.specs.GroupKept.{leaving-regular}
 use Rattle.cg_agree_lemmas.specs.GroupTurn.{standing-id}
-use Rattle.cg_agree_lemmas.specs.HandSays.{find-holds}
 use Rattle.cg_agree_lemmas.specs.NextThere.{receives-now}
 use Rattle.cg_agree_lemmas.specs.NumbersSame.{IsNumberedAs, SameNumbers, numbered-itself}
 use Rattle.cg_agree_lemmas.specs.OneSteps.{leaves-step}
@@ -69,7 +69,7 @@ talk-commits c p old = at (node_of c.world p) refl where
 
   at : (o : Option Node) → node_of c.world p ≡ o → TalkFacts (option_map_or (λ s. commit_as c p s.life) o c)
   at None e = old
-  at (Some s) e = life s s.life refl (eqb-true s.id p (find-holds (λ (s : Node). s.id == p) c.world.nodes s e)) e
+  at (Some s) e = life s s.life refl (eqb-true s.id p (found_passes (λ (s : Node). s.id == p) c.world.nodes s e)) e
 
 -- ---- a parting
 

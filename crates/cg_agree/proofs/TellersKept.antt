@@ -6,9 +6,9 @@ use Rattle.std.specs.Option.{option_map_or}
 use Rattle.std.proofs.lemmas.Bool.{cases_Bool, cond-true, cond-false, and_parts, not-true}
 use Rattle.cg_base.specs.Weights.{ids}
 use Rattle.cg_base.specs.Text.{is_nil}
+use Rattle.cg_base.specs.ListLaws.{at_place-past}
 use Rattle.cg_wire.specs.declared.message.Msg.{Msg}
 use Rattle.cg_group.specs.State.{Sent, Configuration, configuration, no_configuration}
-use Rattle.cg_group.specs.PlaceLaws.{at_place-past}
 use Rattle.cg_group.specs.Events.{with_message, with_receipt}
 use Rattle.cg_group.specs.GrownLaws.{ordered-message, ordered-receipt}
 use Rattle.cg_client.specs.Replica.{Replica}

@@ -5,6 +5,7 @@ use Rattle.std.proofs.lemmas.Bool.{and_parts}
 use Rattle.std.proofs.lemmas.List.Sums.{fold-append}
 use Rattle.cg_base.specs.Cuts.{index_in}
 use Rattle.cg_base.specs.Sets.{has}
+use Rattle.cg_base.specs.FindLaws.{found_passes}
 use Rattle.cg_action.specs.declared.action.Action.{Action}
 use Rattle.cg_queue.specs.Queue.{names_of}
 use Rattle.cg_knowledge.specs.declared.summary.Summary.{Summary}
@@ -26,7 +27,6 @@ use Rattle.cg_agree_lemmas.specs.EndCovers.{OfEach}
 use Rattle.cg_agree_lemmas.specs.EndQuorum.{both-each}
 use Rattle.cg_agree.proofs.EndReached.{best-bounds}
 use Rattle.cg_agree_lemmas.specs.FrontFacts.{Front-trans, Front-of_both, Front-map}
-use Rattle.cg_agree_lemmas.specs.HandSays.{find-holds}
 use Rattle.cg_agree_lemmas.specs.HandsContent.{IsTold, best-told}
 use Rattle.cg_agree_lemmas.specs.HandsKept.{take-drop}
 use Rattle.cg_agree_lemmas.specs.HandsSent.{front-told, heard-more}
@@ -63,7 +63,7 @@ module _ (c : Chronicle) (i : Invariant c) (conf : ℕ) where
 
   -- what a member told has its name
   pub told-id : (q : ℕ) (t : Told) → told_in c conf q ≡ Some t → t.summary.id ≡ q
-  told-id q t e = eqb-true t.summary.id q (and_parts (t.summary.conf == conf) (t.summary.id == q) (find-holds (λ (t : Told). (t.summary.conf == conf) && (t.summary.id == q)) c.told t e)).1
+  told-id q t e = eqb-true t.summary.id q (and_parts (t.summary.conf == conf) (t.summary.id == q) (found_passes (λ (t : Told). (t.summary.conf == conf) && (t.summary.id == q)) c.told t e)).1
 
   -- what a member told fits its greens
   pub told-fits : (q : ℕ) (t : Told) → told_in c conf q ≡ Some t → IsSummary c t

@@ -5,6 +5,7 @@ use Rattle.std.specs.Option.{option_map_or}
 use Rattle.std.proofs.lemmas.Bool.{cases_Bool, cases_eq, and_parts, and_from, ne_eqb}
 use Rattle.cg_base.specs.declared.action_id.ActionId.{ActionId}
 use Rattle.cg_base.specs.Sets.{has}
+use Rattle.cg_base.specs.FindLaws.{found_passes}
 use Rattle.cg_action.specs.declared.action.Action.{Action}
 use Rattle.cg_queue.specs.Queue.{names_of}
 use Rattle.cg_records.specs.declared.primary.Primary.{Primary}
@@ -30,7 +31,6 @@ use Rattle.cg_model.specs.Smalls.{may_make, is_between}
 use Rattle.cg_agree_lemmas.specs.CoresKept.{held-known}
 use Rattle.cg_agree.proofs.CoversStay.{ReachShrinks, start-covers, covers-still}
 use Rattle.cg_agree.proofs.EndShown.{ToldCovers}
-use Rattle.cg_agree_lemmas.specs.HandSays.{find-holds}
 use Rattle.cg_agree_lemmas.specs.LivesRest.{own-rest}
 use Rattle.cg_agree.proofs.NewestLevel.{newest-level}
 use Rattle.cg_agree.proofs.PastKept.{EntersNow, enters-now, entry_turn, entry_told, told_in-enters}
@@ -143,7 +143,7 @@ module _ (c : Chronicle) (p : ℕ) (i : Invariant c) (may : may_make c (Enters p
   other-record k (Some x) e is some at =
       let newest-is = newest-level c (behind-of c i) some in
       let a = attempt_at c (top_of c) in
-      let named : x.conf ≡ k = eqb-true x.conf k (find-holds (λ (a : Attempt). a.conf == k) c.attempts x e) in
+      let named : x.conf ≡ k = eqb-true x.conf k (found_passes (λ (a : Attempt). a.conf == k) c.attempts x e) in
       let apart : x.conf ≡ a.conf → ⊥ = λ same. (
       let one : Some x ≡ Some a = sym e ∙ ap (attempt_of c) (sym named ∙ same) ∙ newest-is.found in
       let from : x.from ≡ a.from = ap (λ (o : Option Attempt). option_map_or (λ a. a.from) o 0) one in

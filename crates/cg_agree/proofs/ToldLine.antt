@@ -2,6 +2,7 @@
 use Rattle.std.proofs.Common.{◌≡◌, ℕ, ◌≤◌, ◌<◌, true, false, ◌&&◌, [], length, Option, Some, None, IfSome, is_some, refl, ap, subst, arith, eqb-true, option_map}
 use Rattle.std.specs.Prelude.{◌==◌}
 use Rattle.std.proofs.lemmas.Bool.{and_parts}
+use Rattle.cg_base.specs.FindLaws.{found_passes}
 use Rattle.cg_action.specs.declared.action.Action.{Action}
 use Rattle.cg_queue.specs.Queue.{names_of}
 use Rattle.cg_client.specs.Replica.{Held}
@@ -23,7 +24,6 @@ use Rattle.cg_model.specs.Small.{Small, small_step}
 use Rattle.cg_model.specs.Smalls.{may_make}
 use Rattle.cg_agree.proofs.FactsKept.{replica-now, exchange-now, attempt-now}
 use Rattle.cg_agree_lemmas.specs.FrontFacts.{Front-trans, Front-of_both, Front-map}
-use Rattle.cg_agree_lemmas.specs.HandSays.{find-holds}
 use Rattle.cg_agree.proofs.NetFactsKept.{net-kept}
 use Rattle.cg_agree.proofs.OneLine.{reached-front}
 use Rattle.cg_disk_records.specs.Holds.{run_on}
@@ -80,7 +80,7 @@ module _ (c : Chronicle) (f : Behind c) (conf : ℕ) where
 
   named : (q : ℕ) (t : Told) → told_in c conf q ≡ Some t → (t.summary.conf ≡ conf) × (t.summary.id ≡ q)
   named q t e =
-      let parts = and_parts (t.summary.conf == conf) (t.summary.id == q) (find-holds (λ (t : Told). (t.summary.conf == conf) && (t.summary.id == q)) c.told t e) in
+      let parts = and_parts (t.summary.conf == conf) (t.summary.id == q) (found_passes (λ (t : Told). (t.summary.conf == conf) && (t.summary.id == q)) c.told t e) in
       (eqb-true t.summary.conf conf parts.0, eqb-true t.summary.id q parts.1)
 
   pub told-conf : (q : ℕ) (t : Told) → told_in c conf q ≡ Some t → t.summary.conf ≡ conf

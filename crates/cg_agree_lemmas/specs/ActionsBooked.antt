@@ -6,6 +6,7 @@ use Rattle.std.specs.List.{cons_option}
 use Rattle.cg_base.specs.declared.action_id.ActionId.{ActionId}
 use Rattle.cg_base.specs.Lists.{above_up_to, Each}
 use Rattle.cg_base.specs.Sets.{IsSet}
+use Rattle.cg_base.specs.EachLaws.{Each-append, Each-rest, Each-front}
 use Rattle.cg_action.specs.declared.action.Action.{Action}
 use Rattle.cg_action.specs.declared.action.Kind.TheVariants.{Leave as LeaveKind}
 use Rattle.cg_wire.specs.declared.message.Msg.{Msg}
@@ -33,18 +34,6 @@ use Rattle.cg_agree_lemmas.specs.WorldTurns.{hand-behind}
 -- ---- lists
 
 module _ {X : Type 0} (P : X → Type 0) where
-  each-front : (xs ys : List X) → Each P (xs ++ ys) → Each P xs
-  each-front [] ys all = tt
-  each-front (x ∷ xs) ys all = (all.0, each-front xs ys all.1)
-
-  each-behind : (xs ys : List X) → Each P (xs ++ ys) → Each P ys
-  each-behind [] ys all = all
-  each-behind (x ∷ xs) ys all = each-behind xs ys all.1
-
-  each-both : (xs ys : List X) → Each P xs → Each P ys → Each P (xs ++ ys)
-  each-both [] ys first second = second
-  each-both (x ∷ xs) ys first second = (first.0, each-both xs ys first.1 second)
-
 -- ---- messages
 
 of-message : (P : Action → Type 0) (m : Msg) → IfSome (action_in m) P → OfMessage P m
@@ -76,7 +65,7 @@ module _ (P : Action → Type 0) (conf : Configuration Msg) (all : Each P (filte
 
   at-places : (places : List ℕ) → Each (OfDelivery P) (deliveries_at conf places)
   at-places [] = tt
-  at-places (place ∷ places) = each-both (OfDelivery P) (delivery_at conf place) (deliveries_at conf places) (at-place place) (at-places places)
+  at-places (place ∷ places) = Each-append (OfDelivery P) (delivery_at conf place) (deliveries_at conf places) (at-place place) (at-places places)
 
 -- ---- the book
 
@@ -100,7 +89,7 @@ module _ (c : Chronicle) (w : World) (stands : StandsBeside c w) where
         at None are = tt
         at (Some r) are =
             let all = each-named c (r.held.queue.reds ++ r.held.own) are in
-            record { reds = each-front (Named book) r.held.queue.reds r.held.own all; own = each-behind (Named book) r.held.queue.reds r.held.own all; coming = coming }
+            record { reds = Each-front (Named book) r.held.queue.reds r.held.own all; own = Each-rest (Named book) r.held.queue.reds r.held.own all; coming = coming }
 
   places-booked : (conf : ℕ) (places : List ℕ) → Each (OfDelivery (Named book)) (deliveries_at (configuration w.group conf) places)
   places-booked conf places =
@@ -139,7 +128,7 @@ module _ (c : Chronicle) (w : World) (stands : StandsBeside c w) where
       let before = above_up_to (delivered_to g p) k in
       let later = transitional_places (configuration g conf) set k in
       input-booked p (Deliveries (deliveries_at (configuration g conf) before ++ TransitionalIn conf set ∷ deliveries_at (configuration g conf) later))
-      (each-both (OfDelivery (Named book)) (deliveries_at (configuration g conf) before) (TransitionalIn conf set ∷ deliveries_at (configuration g conf) later)
+      (Each-append (OfDelivery (Named book)) (deliveries_at (configuration g conf) before) (TransitionalIn conf set ∷ deliveries_at (configuration g conf) later)
       (places-booked conf before) (tt, places-booked conf later))
 
   each-map : (f : ℕ → Handed Msg) → ((p : ℕ) → IsHandedBooked book w (f p)) → (set : List ℕ) → Each (IsHandedBooked book w) (map f set)

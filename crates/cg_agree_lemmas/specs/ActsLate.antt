@@ -4,6 +4,7 @@ use Rattle.std.specs.Prelude.{◌==◌}
 use Rattle.std.proofs.lemmas.Bool.{cases_Bool, and_parts, false_from_ne_true, not-true, or_left}
 use Rattle.cg_base.specs.Sets.{has, is_within, with_member}
 use Rattle.cg_base.specs.SetLaws.{has-with_member}
+use Rattle.cg_base.specs.MemberLaws.{list_all_in}
 use Rattle.cg_action.specs.declared.action.Action.{Action}
 use Rattle.cg_knowledge.specs.Summaries.{senders, remaining}
 use Rattle.cg_knowledge.specs.Verdict.{decides}
@@ -16,7 +17,7 @@ use Rattle.cg_model.specs.Looks.{members_in, ordered_in}
 use Rattle.cg_model.specs.Talk.{Talk, no_talk, hears_from, hears, is_full, is_through, is_ended, is_announced, may_go_on, may_say, is_legal, state_in}
 use Rattle.cg_model.specs.FactsTalk.{TalkLegal, handed_talk}
 use Rattle.cg_agree_lemmas.specs.ActsSaid.{handed-parts}
-use Rattle.cg_agree_lemmas.specs.ReachFacts.{all-at, all-from}
+use Rattle.cg_agree_lemmas.specs.ReachFacts.{all-at}
 use Rattle.cg_agree_lemmas.specs.StatesSaid.{announcing}
 use Rattle.cg_agree_lemmas.specs.TalkEarly.{IsEarly, early-hears, early-none, not_full}
 
@@ -43,7 +44,7 @@ late-hears set conf t from m early late may = λ ended decided few. ⊎_elim
 
       fewer : is_within (remaining t.heard) (with_member t.announced from) ≡ false → is_within (remaining t.heard) t.announced ≡ false
       fewer few = false_from_ne_true (is_within (remaining t.heard) t.announced) (λ all.
-          (let more : is_within (remaining t.heard) (with_member t.announced from) ≡ true = all-from (has (with_member t.announced from)) (remaining t.heard)
+          (let more : is_within (remaining t.heard) (with_member t.announced from) ≡ true = list_all_in (has (with_member t.announced from)) (remaining t.heard)
           (λ q is. has-with_member t.announced from q ∙ or_left (has t.announced q) (eqb from q) (all-at (has t.announced) (remaining t.heard) q all is)) in
           let clash : true ≡ false = sym more ∙ few in cc))
 

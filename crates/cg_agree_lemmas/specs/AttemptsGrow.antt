@@ -5,6 +5,7 @@ use Rattle.std.specs.Option.{option_map_or}
 use Rattle.std.proofs.lemmas.Bool.{cond_both}
 use Rattle.cg_base.specs.Sets.{has, with_member}
 use Rattle.cg_base.specs.SetLaws.{has-with_member}
+use Rattle.cg_base.specs.FindLaws.{found_before}
 use Rattle.cg_action.specs.declared.action.Action.{Action}
 use Rattle.cg_records.specs.declared.vulnerable.Vulnerable.{Vulnerable}
 use Rattle.cg_client.specs.Replica.{Held, Replica}
@@ -16,7 +17,7 @@ use Rattle.cg_model.specs.Attempts.{new_attempt, is_seen, with_attempt_of}
 use Rattle.cg_model.specs.Chronicle.{Leaving, Attempt, Chronicle}
 use Rattle.cg_model.specs.Looks.{snapshot_of, greens_of, stood_of, conf_at}
 use Rattle.cg_model.specs.Small.{Small, Starts, Makes, Enters, Orders, Receives, Hands, Leaves, Asks, Settles, Commits, Crashes, Recovers, Copies, Joins, small_step, changed_attempt, with_entrant, with_installer, with_leaver, entering, installing, attempts_behind, is_entry, is_installation, newly_green, turning_as, turning, commit_as, crash_as, recover_as, copy_as, join_with, coming, take_newest, handed_next, take_next, leaving, take_parting, take_request}
-use Rattle.cg_agree_lemmas.specs.Keyed.{found-changed, find-append}
+use Rattle.cg_agree_lemmas.specs.Keyed.{found-changed}
 use Rattle.cg_agree_lemmas.specs.SameAttempt.{SameAttempt, same-refl, same-then}
 
 -- one attempt, and what it has become
@@ -68,7 +69,7 @@ grow-changed f grows conf attempts = record {
   choice k a false e = record { now = a; found = e; grown = grown-refl a }
 
 pub grow-appended : (attempts more : List Attempt) → Grow attempts (attempts ++ more)
-grow-appended attempts more = record { still = λ conf a e. record { now = a; found = find-append (λ (a : Attempt). a.conf == conf) attempts more a e; grown = grown-refl a } }
+grow-appended attempts more = record { still = λ conf a e. record { now = a; found = found_before (λ (a : Attempt). a.conf == conf) attempts more a e; grown = grown-refl a } }
 
 -- ---- what a replica does to an attempt
 
@@ -83,7 +84,7 @@ grown-leaver p count a =
       same = record { conf = refl; from = refl; set = refl; greens = refl; yellow = refl; reds = refl };
       entered = λ q e. e;
       installed = λ q e. e;
-      left = λ q l e. find-append (λ (l : Leaving). l.member == q) a.left (record { member = p; count = count } ∷ []) l e;
+      left = λ q l e. found_before (λ (l : Leaving). l.member == q) a.left (record { member = p; count = count } ∷ []) l e;
     }) (λ n. grown-refl a)
 
 pub grown-entrant : (p : ℕ) (a : Attempt) → Grown a (with_entrant p a)

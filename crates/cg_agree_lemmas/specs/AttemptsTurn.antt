@@ -4,6 +4,7 @@ use Rattle.std.specs.Prelude.{◌==◌}
 use Rattle.std.proofs.lemmas.Bool.{cases_Bool, cond-true, cond-false, ne_eqb, eqb-false, or_right, false_from_ne_true}
 use Rattle.cg_base.specs.Sets.{has}
 use Rattle.cg_base.specs.SetLaws.{has-with_member}
+use Rattle.cg_base.specs.BoolLaws.{and_false}
 use Rattle.cg_action.specs.declared.action.Action.{Action}
 use Rattle.cg_records.specs.declared.vulnerable.Vulnerable.{Vulnerable}
 use Rattle.cg_knowledge.specs.declared.summary.Summary.{Summary}
@@ -35,20 +36,16 @@ quiet-neither old new quiet = record {
   installation = ap (λ b. not (is_primary old.state) && b) quiet.primary ∙ not-and (is_primary old.state);
 }
 
-and-false : (b : Bool) → (b && false) ≡ false
-and-false true = refl
-and-false false = refl
-
 pub decided-neither : (heard : List Summary) (old new : Replica) → HasDecided heard old new → IsNeither old new
 decided-neither heard old new is = record {
-  entry = ap (λ (s : State). not (is_attempting old.state) && is_attempting s) is.state ∙ and-false (not (is_attempting old.state));
-  installation = ap (λ (s : State). not (is_primary old.state) && is_primary s) is.state ∙ and-false (not (is_primary old.state));
+  entry = ap (λ (s : State). not (is_attempting old.state) && is_attempting s) is.state ∙ and_false (not (is_attempting old.state));
+  installation = ap (λ (s : State). not (is_primary old.state) && is_primary s) is.state ∙ and_false (not (is_primary old.state));
 }
 
 pub come-neither : (conf : ℕ) (set : List ℕ) (old new : Replica) → HasCome old new conf set → IsNeither old new
 come-neither conf set old new is = record {
-  entry = ap (λ (s : State). not (is_attempting old.state) && is_attempting s) is.state ∙ and-false (not (is_attempting old.state));
-  installation = ap (λ (s : State). not (is_primary old.state) && is_primary s) is.state ∙ and-false (not (is_primary old.state));
+  entry = ap (λ (s : State). not (is_attempting old.state) && is_attempting s) is.state ∙ and_false (not (is_attempting old.state));
+  installation = ap (λ (s : State). not (is_primary old.state) && is_primary s) is.state ∙ and_false (not (is_primary old.state));
 }
 
 pub neither-attempts : (attempts : List Attempt) (p : ℕ) (greens : List Action) (old new : Replica) → IsNeither old new → attempts_behind attempts p greens old new ≡ attempts
@@ -87,7 +84,7 @@ pub attempted-entry : (m : Msg) (conf : ℕ) (heard : List Summary) (old new : R
     (is_entry old.state new.state ≡ true) × (is_installation old.state new.state ≡ false)
 attempted-entry m conf heard old new ends is =
     let beside = ends-beside old.state m conf heard ends in
-    (ap₂ (λ b (s : State). not b && is_attempting s) beside.0 is.state, ap (λ (s : State). not (is_primary old.state) && is_primary s) is.state ∙ and-false (not (is_primary old.state)))
+    (ap₂ (λ b (s : State). not b && is_attempting s) beside.0 is.state, ap (λ (s : State). not (is_primary old.state) && is_primary s) is.state ∙ and_false (not (is_primary old.state)))
 
 pub attempted-attempts : (m : Msg) (conf : ℕ) (heard : List Summary) (attempts : List Attempt) (p : ℕ) (greens : List Action) (old new : Replica) → EndsWith old.state m conf heard →
     HasAttempted conf heard old new → attempts_behind attempts p greens old new ≡ entering greens new.held attempts (Some (new_record conf heard old.held.id))

@@ -8,7 +8,7 @@ use Rattle.cg_base.specs.declared.action_id.ActionId.{ActionId}
 use Rattle.cg_base.specs.declared.weighted.Weighted.{Weighted}
 use Rattle.cg_base.specs.Cuts.{index_in}
 use Rattle.cg_base.specs.Ids.{same_id, has_name}
-use Rattle.cg_base.specs.IdLaws.{same_id-is}
+use Rattle.cg_base.specs.IdLaws.{same_id-is, same_id-self}
 use Rattle.cg_action.specs.declared.action.Action.{Action}
 use Rattle.cg_queue.specs.Queue.{names_of}
 use Rattle.cg_client.specs.Replica.{Held, Replica, NonPrim, created}
@@ -30,7 +30,7 @@ use Rattle.cg_agree_lemmas.specs.HeldCommit.{recovered-id}
 use Rattle.cg_agree_lemmas.specs.ChronicleFacts.{node_of-set}
 use Rattle.cg_agree_lemmas.specs.CoresKept.{node-of}
 use Rattle.cg_agree_lemmas.specs.CoresSmall.{start-cores}
-use Rattle.cg_agree_lemmas.specs.BookGrows.{named_in, same-self, IsNamed, cut_of, IsCounted}
+use Rattle.cg_agree_lemmas.specs.BookGrows.{named_in, IsNamed, cut_of, IsCounted}
 use Rattle.cg_disk_records.specs.RunMarkLaws.{run-names}
 
 pub record BookCounts (c : Chronicle) : Type 0 where
@@ -151,7 +151,7 @@ counts-recover c p own core s e (Down disk green) life is =
 pub found-name : (book : List Action) (id : ActionId) (a : Action) → named_in book id ≡ Some a → has_name (names_of book) id ≡ true
 found-name [] id a e = absurd (let clash : None ≡ Some a = e in cc)
 found-name (x ∷ book) id a e = elim (cases_Bool (same_id x.id id)) [
-  | inl here ↦ ap (λ b. b || has_name (names_of book) id) (let one = same_id-is x.id id here in subst (λ (y : ActionId). same_id id y ≡ true) (sym one) (same-self id))
+  | inl here ↦ ap (λ b. b || has_name (names_of book) id) (let one = same_id-is x.id id here in subst (λ (y : ActionId). same_id id y ≡ true) (sym one) (same_id-self id))
   | inr other ↦ or_right (same_id id x.id) (has_name (names_of book) id) (found-name book id a (sym (cond-false (same_id x.id id) (Some x) (named_in book id) other) ∙ e))
 ]
 

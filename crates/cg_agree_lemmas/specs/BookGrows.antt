@@ -6,7 +6,7 @@ use Rattle.cg_base.specs.Lists.{Each}
 use Rattle.cg_base.specs.declared.action_id.ActionId.{ActionId}
 use Rattle.cg_base.specs.Cuts.{index_in, raise}
 use Rattle.cg_base.specs.Ids.{same_id, has_name}
-use Rattle.cg_base.specs.IdLaws.{same_id-true, same_id-is}
+use Rattle.cg_base.specs.IdLaws.{same_id-true, same_id-is, same_id-self}
 use Rattle.cg_action.specs.declared.action.Action.{Action}
 use Rattle.cg_action.specs.declared.action.Kind.{Kind}
 use Rattle.cg_queue.specs.Queue.{names_of}
@@ -30,9 +30,6 @@ IsNamed book a = named_in book a.id ≡ Some a
 
 -- ---- in a list in which each is the next of its creator a name stands for one action
 
-pub same-self : (id : ActionId) → same_id id id ≡ true
-same-self id = same_id-true id id refl refl
-
 found-more : (xs ys : List Action) (id : ActionId) (a : Action) → named_in xs id ≡ Some a → named_in (xs ++ ys) id ≡ Some a
 found-more [] ys id a e = absurd (let clash : None ≡ Some a = e in cc)
 found-more (x ∷ xs) ys id a e = elim (cases_Bool (same_id x.id id)) [
@@ -45,7 +42,7 @@ named-more xs ys a is = found-more xs ys a.id a is
 
 -- a name that isn't among the earlier ones
 found-last : (xs : List Action) (a : Action) (ys : List Action) → has_name (names_of xs) a.id ≡ false → named_in (xs ++ a ∷ ys) a.id ≡ Some a
-found-last [] a ys none = cond-true (same_id a.id a.id) (Some a) (named_in ys a.id) (same-self a.id)
+found-last [] a ys none = cond-true (same_id a.id a.id) (Some a) (named_in ys a.id) (same_id-self a.id)
 found-last (x ∷ xs) a ys none =
     let first : same_id a.id x.id ≡ false = or-first (same_id a.id x.id) (has_name (names_of xs) a.id) none in
     cond-false (same_id x.id a.id) (Some x) (named_in (xs ++ a ∷ ys) a.id) (other-way x.id a.id first) ∙ found-last xs a ys (or-second (same_id a.id x.id) (has_name (names_of xs) a.id) none)

@@ -3,7 +3,7 @@ use Rattle.std.proofs.Common.{◌≡◌, ℕ, ◌-◌, true, false, List, [], �
 use Rattle.std.specs.Option.{option_map_or}
 use Rattle.std.specs.List.{cons_option}
 use Rattle.cg_base.specs.Lists.{Each}
-use Rattle.cg_base.specs.EachLaws.{Each-append}
+use Rattle.cg_base.specs.EachLaws.{Each-append, Each-rest, Each-front, Each-drop}
 use Rattle.cg_base.specs.Cuts.{index_in}
 use Rattle.cg_action.specs.declared.action.Action.{Action}
 use Rattle.cg_wire.specs.declared.message.Msg.{Msg}
@@ -25,7 +25,7 @@ use Rattle.cg_model.specs.FactsNet.{Hosted}
 use Rattle.cg_model.specs.FactsReplica.{IsCore, DiskBehind, AreBooked, MadeOnce}
 use Rattle.cg_model.specs.Facts.{Invariant}
 use Rattle.cg_agree_lemmas.specs.CoresKept.{IsClosed}
-use Rattle.cg_agree_lemmas.specs.BookedRows.{each-drop, own-fine}
+use Rattle.cg_agree_lemmas.specs.BookedRows.{own-fine}
 use Rattle.cg_agree_lemmas.specs.BookGrows.{IsNamed, cut_of}
 
 -- all that is held, and these greens, are the actions of their names
@@ -48,14 +48,6 @@ booked-each c [] each = tt
 booked-each c (a ∷ list) each = (each.0, booked-each c list each.1)
 
 module _ (P : Action → Type 0) where
-  left-each : (xs ys : List Action) → Each P (xs ++ ys) → Each P xs
-  left-each [] ys each = tt
-  left-each (x ∷ xs) ys each = (each.0, left-each xs ys each.1)
-
-  right-each : (xs ys : List Action) → Each P (xs ++ ys) → Each P ys
-  right-each [] ys each = each
-  right-each (x ∷ xs) ys each = right-each xs ys each.1
-
   pub front-each : (xs ys : List Action) → Front xs ys → Each P ys → Each P xs
   front-each [] ys front each = tt
   front-each (x ∷ xs) [] front each = absurd front
@@ -118,12 +110,12 @@ cores-booked c i joiners = record {
   greens p = each-booked c (greens_of c p) (i.replica.made_once.in_greens p)
 
   kept-greens : (h : Held) (all : List Action) → IsCore c h all → Each (IsNamed c.book) all → Each (IsNamed c.book) h.queue.greens
-  kept-greens h all core each = subst (Each (IsNamed c.book)) (sym core.made_of.kept) (each-drop (IsNamed c.book) h.queue.white all each)
+  kept-greens h all core each = subst (Each (IsNamed c.book)) (sym core.made_of.kept) (Each-drop (IsNamed c.book) h.queue.white all each)
 
   holds : (h : Held) (all : List Action) → IsCore c h all → Each (IsNamed c.book) all → AreBooked c (h.queue.reds ++ h.own) → FineHeld c.book h all
   holds h all core each are =
       let both = each-booked c (h.queue.reds ++ h.own) are in
-      (record { greens = kept-greens h all core each; reds = left-each (IsNamed c.book) h.queue.reds h.own both; own = right-each (IsNamed c.book) h.queue.reds h.own both }, each)
+      (record { greens = kept-greens h all core each; reds = Each-front (IsNamed c.book) h.queue.reds h.own both; own = Each-rest (IsNamed c.book) h.queue.reds h.own both }, each)
 
   of_memory : (p : ℕ) (o : Option Replica) → IfSome o (λ r. IsCore c r.held (greens_of c p)) → IfSome o (λ r. AreBooked c (r.held.queue.reds ++ r.held.own)) → IfSome o (λ r. FineHeld c.book r.held (greens_of c p))
   of_memory p None core are = tt
@@ -143,7 +135,7 @@ cores-booked c i joiners = record {
 pub booked-closed : (book : List Action) → IsClosed (FineHeld book)
 unfolding whiten recovery_turn
 booked-closed book = record {
-  whitened = λ h all is. (record { greens = each-drop (IsNamed book) (white_at h - h.queue.white) h.queue.greens is.0.greens; reds = is.0.reds; own = is.0.own }, is.1);
+  whitened = λ h all is. (record { greens = Each-drop (IsNamed book) (white_at h - h.queue.white) h.queue.greens is.0.greens; reds = is.0.reds; own = is.0.own }, is.1);
   stored = λ h all is. (record { greens = is.0.greens; reds = is.0.reds; own = is.0.own }, is.1);
   recovers = λ h all is. (own-fine (IsNamed book) (begin (record { held = h; state = NonPrim false })) is.0, is.1);
   joins = λ p h all is. (record { greens = is.0.greens; reds = tt; own = tt }, is.1);

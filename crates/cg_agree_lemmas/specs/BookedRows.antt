@@ -7,7 +7,7 @@ use Rattle.cg_base.specs.declared.action_id.ActionId.{ActionId}
 use Rattle.cg_base.specs.Cuts.{index_in}
 use Rattle.cg_base.specs.Ids.{same_id, id_before}
 use Rattle.cg_base.specs.Lists.{at_place, Each}
-use Rattle.cg_base.specs.EachLaws.{Each-append, Each-filter}
+use Rattle.cg_base.specs.EachLaws.{Each-append, Each-filter, Each-front}
 use Rattle.cg_action.specs.declared.action.Action.{Action}
 use Rattle.cg_action.specs.declared.action.Kind.{Kind}
 use Rattle.cg_queue.specs.Queue.{QueueView, Marks, Gaps, with_red, placed_red}
@@ -35,11 +35,6 @@ module _ (Fine : Action → Type 0) where
     pub sent : Each (OfMessage Fine) t.sent
 
   -- ---- lists
-
-  pub each-drop : (n : ℕ) (xs : List Action) → Each Fine xs → Each Fine (drop n xs)
-  each-drop zero xs each = each
-  each-drop (suc n) [] each = tt
-  each-drop (suc n) (x ∷ xs) each = each-drop n xs each.1
 
   pub each-with_red : (reds : List Action) (a : Action) → Fine a → Each Fine reds → Each Fine (with_red reds a)
   each-with_red [] a fine each = (fine, tt)
@@ -144,10 +139,6 @@ module _ (Fine : Action → Type 0) where
 
   -- ---- requests, where each action that is made is fine
 
-  each-left : (xs ys : List Action) → Each Fine (xs ++ ys) → Each Fine xs
-  each-left [] ys each = tt
-  each-left (x ∷ xs) ys each = (each.0, each-left xs ys each.1)
-
   each-last : (xs : List Action) (y : Action) → Each Fine (xs ++ y ∷ []) → Fine y
   each-last [] y each = each.0
   each-last (x ∷ xs) y each = each-last xs y each.1
@@ -165,7 +156,7 @@ module _ (Fine : Action → Type 0) where
   made-first : (list : List Kind) (t : Turn) → Each Fine (fold create t list).made → Each Fine t.made
   unfolding create
   made-first [] t made = made
-  made-first (kind ∷ list) t made = each-left t.made (next_action t.replica.held kind ∷ []) (made-first list (create t kind) made)
+  made-first (kind ∷ list) t made = Each-front Fine t.made (next_action t.replica.held kind ∷ []) (made-first list (create t kind) made)
 
   creates-fine : (list : List Kind) (t : Turn) → Each Fine (fold create t list).made → AllFine t → AllFine (fold create t list)
   creates-fine [] t made is = is

@@ -5,6 +5,7 @@ use Rattle.std.specs.Prelude.{◌==◌, option_and_then}
 use Rattle.std.specs.Option.{option_map_or}
 use Rattle.std.proofs.lemmas.Bool.{cases_eq, cond-true, cond-false, ne_eqb}
 use Rattle.cg_base.specs.declared.action_id.ActionId.{ActionId}
+use Rattle.cg_base.specs.FindLaws.{found_passes}
 use Rattle.cg_action.specs.declared.action.Action.{Action}
 use Rattle.cg_client.specs.Replica.{Held, Replica}
 use Rattle.cg_client.specs.Turn.{Turn, begin}
@@ -17,7 +18,6 @@ use Rattle.cg_model.specs.Looks.{past_of, greens_of, stood_of, on_disk, disk_hel
 use Rattle.cg_model.specs.Small.{changed_past, written, struck, after_turn, turning, turning_as, newly_green, with_greens, commit, commit_as, crash, crash_as, note_recovery, recover_as, copy, copy_as}
 use Rattle.cg_agree_lemmas.specs.ChronicleFacts.{node_of-set, greens_of-own, greens_of-other, past_of-turn}
 use Rattle.cg_agree_lemmas.specs.Keyed.{found-changed}
-use Rattle.cg_agree_lemmas.specs.HandSays.{find-holds}
 use Rattle.cg_agree_lemmas.specs.HeldCommit.{recovered-id}
 use Rattle.cg_agree_lemmas.specs.OneselfWorld.{HavePasts, rehosted, stood-same}
 use Rattle.cg_agree_lemmas.specs.OneselfCopies.{found-without}
@@ -70,7 +70,7 @@ disk-known Q c p life node f = subst (λ (o : Option Held). IfSome o (λ h. Q h 
 
 -- what is found as a node is that replica's
 pub node-of : (c : Chronicle) (p : ℕ) (s : Node) (life : NodeState) → s.life ≡ life → node_of c.world p ≡ Some s → node_of c.world p ≡ Some (record { id = p; life = life })
-node-of c p s life is e = e ∙ ap₂ (λ i l. Some (record { id = i; life = l })) (eqb-true s.id p (find-holds (λ (s : Node). s.id == p) c.world.nodes s e)) is
+node-of c p s life is e = e ∙ ap₂ (λ i l. Some (record { id = i; life = l })) (eqb-true s.id p (found_passes (λ (s : Node). s.id == p) c.world.nodes s e)) is
 
 -- ---- a turn
 

@@ -6,6 +6,7 @@ use Rattle.std.proofs.lemmas.Bool.{cases_eq, cases_Bool, cond-true, cond-false, 
 use Rattle.cg_base.specs.declared.weighted.Weighted.{Weighted}
 use Rattle.cg_base.specs.Weights.{ids}
 use Rattle.cg_base.specs.Text.{is_nil}
+use Rattle.cg_base.specs.OptionLaws.{is_some_false}
 use Rattle.cg_action.specs.declared.action.Action.{Action}
 use Rattle.cg_members.specs.Servers.{is_server}
 use Rattle.cg_client.specs.Replica.{Held, fresh_held, fresh}
@@ -34,10 +35,6 @@ module _ {X : Type 0} (key : X → ℕ) where
     | inl same ↦ rw (eq-eqb (key x) j same) (found-gone j xs)
     | inr other ↦ rw (ne_eqb (key x) j other, ne_eqb (key x) j other) (found-gone j xs)
   ]
-
-pub none-of : {X : Type 0} (o : Option X) → is_some o ≡ false → o ≡ None
-none-of None e = refl
-none-of (Some x) e = absurd (let clash : true ≡ false = e in cc)
 
 module _ (Q : Held → List Action → Type 0) (c : Chronicle) (joiner : ℕ) (content : Held) (f : OfCores c Q) (absent : past_of c joiner ≡ None)
     (is : Q (joiner_replica joiner content).held (copied_for c joiner)) where
@@ -78,7 +75,7 @@ pub join-cores : (Q : Held → List Action → Type 0) (c : Chronicle) (joiner :
 unfolding may_make
 join-cores Q c joiner pasts may f = at (snapshot_of c.world joiner) (f.snapshot joiner) where
   absent : past_of c joiner ≡ None
-  absent = none-of (past_of c joiner) (pasts joiner
+  absent = is_some_false (past_of c joiner) (pasts joiner
       ∙ not-true (has_begun c.world joiner) (and_parts (not (has_begun c.world joiner)) (option_map_or (λ s. is_server s.content.members joiner) (snapshot_of c.world joiner) false) may).0)
 
   at : (o : Option TransferState) → IfSome o (λ s. Q (joiner_replica joiner s.content).held (copied_for c joiner)) → OfCores (option_map_or (λ s. join_with c joiner s.content) o c) Q

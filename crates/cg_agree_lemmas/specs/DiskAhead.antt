@@ -1,13 +1,14 @@
 -- A turn that marks nothing but delivered actions red, and creates nothing: what is held goes on from what was held.
 use Rattle.std.proofs.Common.{◌≡◌, ℕ, zero, suc, ◌+◌, ◌-◌, ◌≤◌, max, Bool, true, false, not, ◌&&◌, ◌||◌, List, [], ◌∷◌, ◌++◌, fold, drop, length, Option, refl, sym, ap, ◌∙◌, subst, arith, inl, inr, eqb-true, nat_lt}
 use Rattle.std.specs.Prelude.{◌==◌}
-use Rattle.std.proofs.lemmas.Bool.{cases_eq, eq-eqb, ltb-false, and_parts}
+use Rattle.std.proofs.lemmas.Bool.{cases_eq, eq-eqb, ltb-false, and_parts, not-false}
 use Rattle.cg_base.specs.EachLaws.{Each-all}
 use Rattle.cg_base.specs.declared.action_id.ActionId.{ActionId}
 use Rattle.cg_base.specs.Cuts.{index_in, raise}
 use Rattle.cg_base.specs.Ids.{same_id}
 use Rattle.cg_base.specs.IdLaws.{same_id-true, same_id-false, same_name}
 use Rattle.cg_base.specs.Text.{is_nil}
+use Rattle.cg_base.specs.ListLaws.{is_nil-false}
 use Rattle.cg_action.specs.declared.action.Action.{Action}
 use Rattle.cg_action.specs.declared.action.Kind.{Kind}
 use Rattle.cg_queue.specs.Queue.{names_of, placed_red, Marking, Marks, Gaps, marked_red}
@@ -176,16 +177,12 @@ or-second true b e = absurd (let clash : true ≡ false = e in cc)
 or-second false b e = e
 
 -- none is red before it was delivered: there is none
-none-own : (own : List Action) → not (is_nil own) ≡ false → own ≡ []
-none-own [] e = refl
-none-own (a ∷ own) e = absurd (let clash : true ≡ false = e in cc)
-
 own_red-behind : (old : Held) (t : Turn) → StaysBehind old t → StaysBehind old (own_to_red t)
 unfolding own_to_red
 own_red-behind old t p unnoted =
     let h = t.replica.held in
     let marked : (t.marked_own || not (is_nil h.own)) ≡ false = sym (reddened-noted h.own (forget_own t)) ∙ unnoted.marked_own in
-    at h.own refl (none-own h.own (or-second t.marked_own (not (is_nil h.own)) marked)) (or-first t.marked_own (not (is_nil h.own)) marked) unnoted where
+    at h.own refl (is_nil-false h.own (or-second t.marked_own (not (is_nil h.own)) marked)) (or-first t.marked_own (not (is_nil h.own)) marked) unnoted where
       forgotten : (h : Held) → h.own ≡ [] → record h { own = [] } ≡ h
       forgotten h e = λ i. record h { own = sym e i }
 
@@ -239,14 +236,6 @@ pub record IsKeeping (old : Held) (t : Turn) : Type 0 where
   pub unnoted : IsUnnoted t
   pub values : same_values old t.replica.held ≡ true
 
-nil-from : {X : Type 0} (xs : List X) → not (is_nil xs) ≡ false → xs ≡ []
-nil-from [] e = refl
-nil-from (x ∷ xs) e = absurd (let clash : true ≡ false = e in cc)
-
-not-false : (b : Bool) → not b ≡ false → b ≡ true
-not-false true e = refl
-not-false false e = absurd (let clash : true ≡ false = e in cc)
-
 pub keeping-of : (old : Held) (t : Turn) → commits old t ≡ false → IsKeeping old t
 unfolding commits
 keeping-of old t none =
@@ -258,8 +247,8 @@ keeping-of old t none =
     record {
       unnoted = record {
         marked_own = or-first t.marked_own g second;
-        green = nil-from t.green (or-second t.marked_own g second);
-        made = nil-from t.made (or-second (t.marked_own || g) m first);
+        green = is_nil-false t.green (or-second t.marked_own g second);
+        made = is_nil-false t.made (or-second (t.marked_own || g) m first);
       };
       values = not-false (same_values old t.replica.held) (or-second ((t.marked_own || g) || m) v none);
     }

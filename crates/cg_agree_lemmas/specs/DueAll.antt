@@ -3,6 +3,7 @@ use Rattle.std.proofs.Common.{◌≡◌, ℕ, zero, suc, ◌+◌, ◌-◌, ◌<�
 use Rattle.std.specs.Prelude.{◌==◌, slice_get}
 use Rattle.std.proofs.lemmas.Bool.{le-leb, cases_eq, cases_lt, cases_Bool, cond-true, cond-false}
 use Rattle.std.proofs.lemmas.List.Elements.{filter_map-append}
+use Rattle.std.proofs.lemmas.List.{drop_all}
 use Rattle.cg_plan.specs.declared.parts.Item.{Item}
 use Rattle.cg_plan.specs.declared.parts.Part.{Part}
 use Rattle.cg_plan.specs.declared.parts.SentItem.{SentItem as PlanSent}
@@ -61,12 +62,6 @@ module _ {X : Type 0} where
   take-next [] n x e = absurd (let none : None ≡ Some x = e in cc)
   take-next (y ∷ xs) zero x e = let is : y ≡ x = cc in rw is refl
   take-next (y ∷ xs) (suc n) x e = ap (λ zs. y ∷ zs) (take-next xs n x e)
-
-  pub drop-past : (xs : List X) (n : ℕ) → length xs ≤ n → drop n xs ≡ []
-  drop-past [] zero le = refl
-  drop-past [] (suc n) le = refl
-  drop-past (x ∷ xs) zero le = absurd (omega arith)
-  drop-past (x ∷ xs) (suc n) le = drop-past xs n (omega arith)
 
 by-turn : (turn : SentPart) (me : ℕ) → items_by me (items_of_turn turn) ≡ cond (turn.sender == me) (items_of turn.part) []
 by-turn turn me = by-sender turn.sender me (items_of turn.part)
@@ -164,4 +159,4 @@ none-begins turns me k filled le = at (turn_of turns me k) refl where
   at None e = refl
   at (Some part) e =
       let b = begins turns me k part filled e in
-      absurd (nonempty (items_of part) b.rest b.some (sym (drop-past (items_of_plan turns) k le) ∙ b.here))
+      absurd (nonempty (items_of part) b.rest b.some (sym (drop_all k (items_of_plan turns) le) ∙ b.here))

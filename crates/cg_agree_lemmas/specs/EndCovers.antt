@@ -9,7 +9,7 @@ use Rattle.cg_base.specs.Ids.{has_name, same_id}
 use Rattle.cg_knowledge.specs.declared.summary.Summary.{Summary}
 use Rattle.cg_knowledge.specs.Summaries.{lower, lowest}
 use Rattle.cg_knowledge.specs.Yellow.{yellow_group, is_green_at_most, is_in_each, is_common, yellow_of, common_yellow}
-use Rattle.cg_base.specs.IdLaws.{same_id-true}
+use Rattle.cg_base.specs.IdLaws.{same_id-true, same_id-self}
 use Rattle.cg_model.specs.Fronts.{Front}
 use Rattle.cg_agree_lemmas.specs.FrontFacts.{Front-rest, split_by_Front, common-covers}
 
@@ -35,9 +35,6 @@ lowest-of P heard low e each = subst (λ o. IfSome o P) e (lower-of P heard None
 
 -- ---- names
 
-same-itself : (id : ActionId) → same_id id id ≡ true
-same-itself id = same_id-true id id refl refl
-
 named-more : (ids : List ActionId) (first id : ActionId) → has_name ids id ≡ true → has_name (first ∷ ids) id ≡ true
 named-more ids first id e = or_right (same_id id first) (has_name ids id) e
 
@@ -53,7 +50,7 @@ named-front [] ys f = refl
 named-front (id ∷ es) [] f = absurd f
 named-front (id ∷ es) (y ∷ ys) f =
     and_from (has_name (y ∷ ys) id) (list_all (has_name (y ∷ ys)) es)
-    (or_left (same_id id y) (has_name ys id) (ap (same_id id) (sym f.0) ∙ same-itself id))
+    (or_left (same_id id y) (has_name ys id) (ap (same_id id) (sym f.0) ∙ same_id-self id))
     (all-more es ys y (named-front es ys f.1))
 
 named-behind : (fs es ys : List ActionId) → Front (fs ++ es) ys → list_all (has_name ys) es ≡ true

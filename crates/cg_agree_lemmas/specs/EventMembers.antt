@@ -13,6 +13,7 @@ use Rattle.cg_group.specs.Ready.{ready_in}
 use Rattle.cg_group.specs.Refusals.{empty_set, any_of, not_up, not_regular, not_one_configuration, still_regular, not_together, split_refusal, merge_refusal}
 use Rattle.cg_base.specs.Lists.{Each}
 use Rattle.cg_base.specs.EachLaws.{Each-has, Each-weaker}
+use Rattle.cg_base.specs.FindLaws.{none_found}
 use Rattle.cg_client.specs.Replica.{Replica}
 use Rattle.cg_schedule.specs.declared.event.Event.TheVariants.{Split, Merge}
 use Rattle.cg_model.specs.World.{Node, World, running, replica_of, is_left, is_left_state, left_replicas}
@@ -33,20 +34,13 @@ pub none-of : (test : ℕ → Option Reason) (set : List ℕ) → is_none (any_o
 none-of test [] e = tt
 none-of test (p ∷ set) e = (let one = first-none (test p) (map test set) e in (one.0, none-of test set one.1))
 
-none-found : {X : Type 0} (t : X → Bool) (xs : List X) → find t xs ≡ None → Each (λ x. t x ≡ false) xs
-none-found t [] e = tt
-none-found t (x ∷ xs) e = ⊎_elim
-    (λ y. absurd (let clash : Some x ≡ None = sym (cond-true (t x) (Some x) (find t xs) y) ∙ e in cc))
-    (λ n. (n, none-found t xs (sym (cond-false (t x) (Some x) (find t xs) n) ∙ e)))
-    (cases_Bool (t x))
-
 -- the members of a split are in one configuration
 one-configuration : (g : GroupState Msg) (p : ℕ) (set : List ℕ) → not_one_configuration g (p ∷ set) ≡ None → Each (λ q. regular_in (phase_of g q) ≡ regular_in (phase_of g p)) (p ∷ set)
 one-configuration g p set e = (
   refl,
   Each-weaker (λ q. not (regular_in (phase_of g q) == regular_in (phase_of g p)) ≡ false) (λ q. regular_in (phase_of g q) ≡ regular_in (phase_of g p))
       (λ q n. eqb-true (regular_in (phase_of g q)) (regular_in (phase_of g p)) (is-true (regular_in (phase_of g q) == regular_in (phase_of g p)) n)) set
-      (none-found (λ q. not (regular_in (phase_of g q) == regular_in (phase_of g p))) set (unmapped (find (λ q. not (regular_in (phase_of g q) == regular_in (phase_of g p))) set) e)),
+      (none_found (λ q. not (regular_in (phase_of g q) == regular_in (phase_of g p))) set (unmapped (find (λ q. not (regular_in (phase_of g q) == regular_in (phase_of g p))) set) e)),
 ) where
   is-true : (b : Bool) → not b ≡ false → b ≡ true
   is-true true n = refl

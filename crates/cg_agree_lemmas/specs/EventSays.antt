@@ -13,6 +13,7 @@ use Rattle.cg_queue.specs.Queue.{names_of}
 use Rattle.cg_wire.specs.declared.message.Msg.{Msg}
 use Rattle.cg_group.specs.declared.delivery.Handed.{Handed}
 use Rattle.cg_base.specs.Lists.{Each}
+use Rattle.cg_base.specs.BoolLaws.{or_false}
 use Rattle.cg_report.specs.declared.entry.Made.{Made}
 use Rattle.cg_report.specs.declared.entry.Reply.{Reply}
 use Rattle.cg_client.specs.Replica.{Held, Replica}
@@ -42,13 +43,9 @@ pub record Said (g h : StepInProgress) (p : ℕ) (new : List ActionId) (given : 
   pub count : (i : ℕ) → times (own_name p i) (ids_in h.replies) ≡ times (own_name p i) (ids_in g.replies) + times (own_name p i) (reply_ids given)
   pub from : (r : Reply) → r.id.creator ≡ p → IsIn (plain h.replies) r → IsIn (plain g.replies) r ⊎ IsIn given r
 
-or-none : (b : Bool) → (b || false) ≡ b
-or-none true = refl
-or-none false = refl
-
 pub said-none : (g h : StepInProgress) (p : ℕ) → h.made ≡ g.made → h.replies ≡ g.replies → Said g h p [] []
 said-none g h p made replies = record {
-  made = λ i. ap (λ list. has_name (made_ids list) (own_name p i)) made ∙ sym (or-none (has_name (made_ids g.made) (own_name p i)));
+  made = λ i. ap (λ list. has_name (made_ids list) (own_name p i)) made ∙ sym (or_false (has_name (made_ids g.made) (own_name p i)));
   count = λ i. ap (λ list. times (own_name p i) (ids_in list)) replies ∙ (let n = times (own_name p i) (ids_in g.replies) in let same : n ≡ n + 0 = omega arith in same);
   from = λ r mine there. inl (subst (λ list. IsIn (plain list) r) replies there);
 }
@@ -56,7 +53,7 @@ said-none g h p made replies = record {
 -- nothing, and then something; or something, and then nothing
 pub said-later : (g h k : StepInProgress) (p : ℕ) (made : List ActionId) (replies : List Reply) → Said g h p [] [] → Said h k p made replies → Said g k p made replies
 said-later g h k p made replies a b = record {
-  made = λ i. b.made i ∙ ap (λ x. x || has_name made (own_name p i)) (a.made i ∙ or-none (has_name (made_ids g.made) (own_name p i)));
+  made = λ i. b.made i ∙ ap (λ x. x || has_name made (own_name p i)) (a.made i ∙ or_false (has_name (made_ids g.made) (own_name p i)));
   count = λ i. (let one = a.count i in let two = b.count i in omega arith);
   from = λ r mine there. elim (b.from r mine there) [
     | inl before ↦ elim (a.from r mine before) [ inl first ↦ inl first | inr none ↦ absurd none ]
@@ -66,7 +63,7 @@ said-later g h k p made replies a b = record {
 
 pub said-before : (g h k : StepInProgress) (p : ℕ) (made : List ActionId) (replies : List Reply) → Said g h p made replies → Said h k p [] [] → Said g k p made replies
 said-before g h k p made replies a b = record {
-  made = λ i. b.made i ∙ or-none (has_name (made_ids h.made) (own_name p i)) ∙ a.made i;
+  made = λ i. b.made i ∙ or_false (has_name (made_ids h.made) (own_name p i)) ∙ a.made i;
   count = λ i. (let one = a.count i in let two = b.count i in omega arith);
   from = λ r mine there. elim (b.from r mine there) [ inl before ↦ a.from r mine before | inr none ↦ absurd none ];
 }

@@ -14,6 +14,8 @@ use Rattle.cg_group.specs.State.{Sent, Standing, Configuration, GroupState, no_c
 use Rattle.cg_group.specs.Events.{order, order_from, order_all, with_message, receive, with_receipt, regulars}
 use Rattle.cg_group.specs.Refusals.{refuse, not_up, not_regular, no_such_place, already_received, earlier_missing, is_missing, sender_at, receive_refusal}
 use Rattle.cg_base.specs.EachLaws.{Each-above, Each-weaker}
+use Rattle.cg_base.specs.FindLaws.{find_none}
+use Rattle.cg_base.specs.ListLaws.{length-more}
 use Rattle.cg_group.specs.LookupLaws.{at_place-changed}
 use Rattle.cg_group.specs.PlaceLaws.{at_place-within}
 use Rattle.cg_model.specs.World.{World}
@@ -97,15 +99,11 @@ pub rising-next : (rs : List (List ℕ)) (p : ℕ) → AreRising rs → AreRisin
 rising-next [] p each = ((omega arith, tt), tt)
 rising-next (set ∷ rs) p each = (each.0, rising-next rs p each.1)
 
-length-next : {X : Type 0} (xs : List X) (x : X) → length (xs ++ x ∷ []) ≡ suc (length xs)
-length-next [] x = refl
-length-next (y ∷ xs) x = ap suc (length-next xs x)
-
 fit-message : (c : Configuration Msg) (p : ℕ) (m : Msg) → IsFit c → IsFit (with_message c p m)
 unfolding with_message
 fit-message c p m is = record {
   rising = rising-next c.received p is.rising;
-  long = length-next c.received (p ∷ []) ∙ ap suc is.long ∙ sym (length-next c.ordered (let x : Sent Msg = record { from = p; message = m } in x));
+  long = length-more c.received (p ∷ []) ∙ ap suc is.long ∙ sym (length-more c.ordered (let x : Sent Msg = record { from = p; message = m } in x));
 }
 
 -- orders keep that
@@ -142,10 +140,6 @@ set-configuration-twice k conf a b = ap (λ list. record k { configurations = li
 up-so : (k : GroupState Msg) (conf : ℕ) (c : Configuration Msg) (p : ℕ) (s : Standing Msg) → standing_of k p ≡ Some s → not_up (set_configuration k conf c) p ≡ None
 unfolding set_configuration standing_of
 up-so k conf c p s is = ap (λ (o : Option (Standing Msg)). refuse (not (is_some o)) (NotUp p)) is
-
-not-found : {X : Type 0} (t : X → Bool) (xs : List X) → Each (λ x. t x ≡ false) xs → find t xs ≡ None
-not-found t [] each = refl
-not-found t (x ∷ xs) each = cond-false (t x) (Some x) (find t xs) each.0 ∙ not-found t xs each.1
 
 module _ (w : World) (k : GroupState Msg) (p : ℕ) (s : Standing Msg) (is : standing_of k p ≡ Some s) (regular : (regular_in s.phase == 0) ≡ false)
     (C : Configuration Msg) (there : at_place k.configurations (regular_in s.phase) ≡ Some C) (fit : IsFit C) where
@@ -203,7 +197,7 @@ module _ (w : World) (k : GroupState Msg) (p : ℕ) (s : Standing Msg) (is : sta
       let new : already_received g p x ≡ None = ap (λ (c : Configuration Msg). refuse (has_received c p x) (AlreadyReceived x)) at_home
       ∙ ap (λ b. refuse b (AlreadyReceived x)) (reached.above x (omega arith) ∙ lacked) in
       let earlier : earlier_missing g p x ≡ None = ap (λ (c : Configuration Msg). option_map EarlierMissing (find (is_missing c p x) (above_up_to 0 (x - 1)))) at_home
-      ∙ ap (option_map EarlierMissing) (not-found (is_missing (with_receipts rs) p x) (above_up_to 0 (x - 1))
+      ∙ ap (option_map EarlierMissing) (find_none (is_missing (with_receipts rs) p x) (above_up_to 0 (x - 1))
       (Each-weaker (λ e. (0 < e) × (e ≤ x - 1)) (λ e. is_missing (with_receipts rs) p x e ≡ false)
       (λ e b. had (sender_at (with_receipts rs) e == sender_at (with_receipts rs) x) (got p rs e)
       (reached.below e b.0 (let high : e ≤ suc n - 1 = b.1 in omega arith)))

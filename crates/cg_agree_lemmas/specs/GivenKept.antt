@@ -2,6 +2,7 @@
 use Rattle.std.proofs.Common.{◌≡◌, ℕ, suc, ◌≤◌, Bool, true, false, cond, not, List, [], ◌∷◌, map, filter, length, refl, sym, ap, subst, ◌∙◌, ⊎_elim, arith, eqb-true}
 use Rattle.std.specs.Prelude.{◌==◌}
 use Rattle.std.proofs.lemmas.Bool.{cases_Bool, cases_eq, cond-true, cond-false, cond_both, ne_eqb}
+use Rattle.cg_base.specs.ListLaws.{length-filter}
 use Rattle.cg_group.specs.LookupLaws.{at-cond}
 use Rattle.cg_model.specs.World.{TransferState}
 use Rattle.cg_model.specs.Chronicle.{Copy, Chronicle}
@@ -35,10 +36,6 @@ module _ {X : Type 0} (giver joiner : X → ℕ) where
       (λ n. rw n (ap (λ zs. cond (joiner x == j) (x ∷ zs) zs) (without-other j k other xs)))
       (cases_Bool (joiner x == k))
 
-fewer : (t : ℕ → Bool) (xs : List ℕ) → length (filter t xs) ≤ length xs
-fewer t [] = omega arith
-fewer t (x ∷ xs) = let rest = fewer t xs in cond_both (t x) (x ∷ filter t xs) (filter t xs) (λ zs. length zs ≤ suc (length xs)) (λ y. omega arith) (λ n. omega arith)
-
 pub length-mapped : {X Y : Type 0} (f : X → Y) (xs : List X) → length (map f xs) ≡ length xs
 length-mapped f [] = refl
 length-mapped f (x ∷ xs) = ap suc (length-mapped f xs)
@@ -61,7 +58,7 @@ given-crashed c d p copies snapshots old = record {
       ∙ ap (filter (λ g. not (g == p))) (old.copied j) ∙ sym (left j);
   once = λ j.
       let long = length-mapped (λ (s : TransferState). s.giver) (snapshots_for d.world j) in
-      let shorter = fewer (λ g. not (g == p)) (map (λ (s : TransferState). s.giver) (snapshots_for c.world j)) in
+      let shorter = length-filter (λ g. not (g == p)) (map (λ (s : TransferState). s.giver) (snapshots_for c.world j)) in
       let was = length-mapped (λ (s : TransferState). s.giver) (snapshots_for c.world j) in
       let one = old.once j in
       let same = ap length (left j) in

@@ -5,12 +5,13 @@ use Rattle.std.specs.Prelude.{◌==◌}
 use Rattle.std.specs.Option.{option_map_or}
 use Rattle.std.proofs.lemmas.Bool.{cases_Bool, cases_lt, cases_eq, cond-true, cond-false, ne_eqb}
 use Rattle.cg_base.specs.Sets.{has}
+use Rattle.cg_base.specs.ListLaws.{at_place-past}
 use Rattle.cg_wire.specs.declared.message.Msg.{Msg}
 use Rattle.cg_group.specs.declared.phase.Phase.{Phase}
 use Rattle.cg_group.specs.declared.phase.Phase.TheVariants.{Down, Alone, Regular, Transitional}
 use Rattle.cg_group.specs.State.{Configuration, GroupState, Standing, no_configuration, phase_of, is_up, delivered_to, configuration, has_received, standing_of}
 use Rattle.cg_group.specs.GrownLaws.{Grows}
-use Rattle.cg_group.specs.PlaceLaws.{at_place-append, at_place-last, at_place-past}
+use Rattle.cg_group.specs.PlaceLaws.{at_place-append, at_place-last}
 use Rattle.cg_model.specs.World.{replica_of}
 use Rattle.cg_model.specs.Chronicle.{Chronicle}
 use Rattle.cg_model.specs.Looks.{conf_of, is_regular_at, is_regular_in, received_by_all}

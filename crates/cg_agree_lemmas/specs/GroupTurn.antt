@@ -4,11 +4,11 @@ use Rattle.std.specs.Prelude.{◌==◌}
 use Rattle.std.specs.Option.{option_map_or}
 use Rattle.std.proofs.lemmas.Bool.{cases_Bool, cond-true, cond-false, cond_both}
 use Rattle.std.proofs.lemmas.List.{append_assoc}
+use Rattle.cg_base.specs.FindLaws.{found_passes}
 use Rattle.cg_group.specs.declared.phase.Phase.TheVariants.{Down}
 use Rattle.cg_group.specs.State.{Standing, GroupState, standing_of, phase_of, unordered_of, regular_in, is_regular, set_standing, configuration, delivered_to}
 use Rattle.cg_group.specs.Events.{send_from, send, send_all, with_delivered}
 use Rattle.cg_group.specs.LookupLaws.{phase_of-set, unordered_of-set, delivered_to-set, configuration-set_standing}
-use Rattle.cg_agree_lemmas.specs.HandSays.{find-holds}
 
 -- a value that a function has at one place
 pub put-same : {X : Type 0} (f : ℕ → X) (p : ℕ) (x : X) → f p ≡ x → (q : ℕ) → cond (q == p) x (f q) ≡ f q
@@ -24,7 +24,7 @@ module _ {M : Type 0} where
   -- a replica stands under its own identifier
   pub standing-id : (g : GroupState M) (p : ℕ) (s : Standing M) → standing_of g p ≡ Some s → s.id ≡ p
   unfolding standing_of
-  standing-id g p s e = eqb-true s.id p (find-holds (λ (s : Standing M). s.id == p) g.replicas s e)
+  standing-id g p s e = eqb-true s.id p (found_passes (λ (s : Standing M). s.id == p) g.replicas s e)
 
   -- one replica stands so
   moved-set : (g : GroupState M) (p : ℕ) (s new : Standing M) → standing_of g p ≡ Some s → new.id ≡ p → new.phase ≡ s.phase → (sent : List M) →

@@ -8,6 +8,7 @@ use Rattle.cg_base.specs.declared.action_id.ActionId.{ActionId}
 use Rattle.cg_base.specs.Lists.{at_place}
 use Rattle.cg_base.specs.Ids.{same_id}
 use Rattle.cg_base.specs.Sets.{has, is_within}
+use Rattle.cg_base.specs.FindLaws.{found_passes}
 use Rattle.cg_action.specs.declared.action.Action.{Action}
 use Rattle.cg_queue.specs.Queue.{QueueView, action_of}
 use Rattle.cg_knowledge.specs.Summaries.{senders, gone, remaining}
@@ -32,7 +33,7 @@ use Rattle.cg_model.specs.Talk.{Talk, hears, is_full, is_through, is_ended, is_d
 use Rattle.cg_agree_lemmas.specs.TalkEarly.{all-member}
 use Rattle.cg_agree_lemmas.specs.TalkCommute.{wanted-one}
 use Rattle.cg_agree_lemmas.specs.DueAll.{begins, none-begins, get-drop, next-drop}
-use Rattle.cg_agree_lemmas.specs.HandSays.{messages, part_messages, cpc_at_end, has_part, find-holds, sent-go_on, remains-unless_gone}
+use Rattle.cg_agree_lemmas.specs.HandSays.{messages, part_messages, cpc_at_end, has_part, sent-go_on, remains-unless_gone}
 use Rattle.cg_agree_lemmas.specs.SaidSoFar.{kind_of, IsSame, NoneElse, rest-same, rest-through, rest-lacks}
 
 module _ (set : List ℕ) (conf me : ℕ) where
@@ -76,7 +77,7 @@ module _ (set : List ℕ) (conf me : ℕ) where
       let due = due-there z (Red id) full (get-drop plan z.accepted (plan_sent me (Red id)) (map (plan_sent me) items ++ rest) here) in
       let next = next-drop plan z.accepted (plan_sent me (Red id)) (map (plan_sent me) items ++ rest) here in
       legal-red id (action_of q id) z (messages q items)
-      (λ a found. same_item-is (Red a.id) (Red id) (find-holds (λ a. same_id a.id id) (q.greens ++ q.reds) a found)) parts.0 due
+      (λ a found. same_item-is (Red a.id) (Red id) (found_passes (λ a. same_id a.id id) (q.greens ++ q.reds) a found)) parts.0 due
       (legal-items q items (record z { accepted = suc z.accepted }) rest full next parts.1)
 
   -- the first item of a part that begins

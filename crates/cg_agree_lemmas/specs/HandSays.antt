@@ -10,6 +10,7 @@ use Rattle.cg_base.specs.declared.action_id.ActionId.{ActionId}
 use Rattle.cg_base.specs.Lists.{at_place}
 use Rattle.cg_base.specs.Sets.{has}
 use Rattle.cg_base.specs.SetLaws.{has-without}
+use Rattle.cg_base.specs.FindLaws.{found_passes}
 use Rattle.cg_action.specs.declared.action.Action.{Action}
 use Rattle.cg_queue.specs.Queue.{QueueView, action_of}
 use Rattle.cg_knowledge.specs.declared.summary.Summary.{Summary}
@@ -117,16 +118,6 @@ only-part : (q : QueueView) (o : Option Part) → OnlyItems (part_messages q o)
 only-part q None = record { summary = refl; announcement = refl; actions = refl }
 only-part q (Some part) = only-items q (items_of part)
 
-pub find-holds : {X : Type 0} (test : X → Bool) (xs : List X) (x : X) → find test xs ≡ Some x → test x ≡ true
-find-holds test [] x e = absurd (let no : None ≡ Some x = e in cc)
-find-holds test (y ∷ xs) x e = ⊎_elim
-    (λ here. let first : cond (test y) (Some y) (find test xs) ≡ Some x = e in
-    let same : Some y ≡ Some x = sym (cond-true (test y) (Some y) (find test xs) here) ∙ first in
-    let is : y ≡ x = cc in ap test (sym is) ∙ here)
-    (λ later. let first : cond (test y) (Some y) (find test xs) ≡ Some x = e in
-    find-holds test xs x (sym (cond-false (test y) (Some y) (find test xs) later) ∙ first))
-    (cases_Bool (test y))
-
 green-item : (at : ℕ) (o : Option Action) (rest : List Msg) (items : List Item) → is_some (option_map (GreenItem at) o) ≡ true →
     filter_map item_in rest ≡ items → filter_map item_in (option_to_list (option_map (GreenItem at) o) ++ rest) ≡ Green at ∷ items
 green-item at None rest items there more = absurd (let no : false ≡ true = there in cc)
@@ -148,7 +139,7 @@ items-said q (Green at ∷ items) all =
 items-said q (Red id ∷ items) all =
     let parts = and_parts (is_some (message_of q (Red id))) (list_all (λ item. is_some (message_of q item)) items) all in
     red-item id (action_of q id) (messages q items) items
-    (λ a found. same_item-is (Red a.id) (Red id) (find-holds (λ a. same_id a.id id) (q.greens ++ q.reds) a found)) parts.0 (items-said q items parts.1)
+    (λ a found. same_item-is (Red a.id) (Red id) (found_passes (λ a. same_id a.id id) (q.greens ++ q.reds) a found)) parts.0 (items-said q items parts.1)
 
 part-said : (q : QueueView) (o : Option Part) → has_part q o ≡ true → filter_map item_in (part_messages q o) ≡ part_items o
 part-said q None all = refl

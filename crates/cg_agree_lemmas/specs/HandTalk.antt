@@ -4,6 +4,7 @@ use Rattle.std.specs.Prelude.{◌==◌}
 use Rattle.std.proofs.lemmas.Bool.{and_parts, and_from, cond_both, cases_Bool, cond-true, cond-false, or_left}
 use Rattle.cg_base.specs.Sets.{has, is_within, with_member}
 use Rattle.cg_base.specs.SetLaws.{is_within-has, is_within-from, has-with_member}
+use Rattle.cg_base.specs.MemberLaws.{is_within_more}
 use Rattle.cg_action.specs.declared.action.Action.{Action}
 use Rattle.cg_queue.specs.Queue.{Marking, Marks, Gaps, marked_red, green_count}
 use Rattle.cg_queue.specs.declared.mark.Mark.TheVariants.{Placed, Known}
@@ -93,10 +94,6 @@ creating-behind conf t me =
     ∙ ap (cond (has (gone t.heard) me) false)
     (at-cond is_creating (not (decides t.heard)) (NonPrim true) (if is_announced t then RegPrim else Construct conf t.announced)
     ∙ ap (cond (not (decides t.heard)) true) (at-cond is_creating (is_announced t) RegPrim (Construct conf t.announced)))
-
-announced-grows : (set more : List ℕ) (p : ℕ) → is_within set more ≡ true → is_within set (with_member more p) ≡ true
-announced-grows set more p all = is_within-from set (with_member more p) (λ q in_set.
-    has-with_member more p q ∙ or_left (has more q) (p == q) (is_within-has set more q all in_set))
 
 -- ---- what is said with each kind of message
 
@@ -261,7 +258,7 @@ module _ (set : List ℕ) (conf me : ℕ) (t : Talk) (early : IsEarly set t) (me
   says-cpc from i k may =
       let on = (announces set conf t from i k may).goes_on in
       says-quiet (with_member t.announced from) t.acts (on_message (state_in set conf t me) from (Cpc i k) tr).sent (sent-cpc set conf me t tr none from i k may) on.full on.through
-      (announced-grows (remaining t.heard) t.announced from)
+      (is_within_more (remaining t.heard) t.announced from)
 
   pub says-act : (from : ℕ) (a : Action) → may_say set conf t from (ActionMsg a) ≡ true →
       SaysWhatIsDue set conf me (said ++ (on_message (state_in set conf t me) from (ActionMsg a) tr).sent) (hears_from t from (ActionMsg a)) told

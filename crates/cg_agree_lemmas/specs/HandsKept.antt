@@ -8,6 +8,7 @@ use Rattle.std.proofs.lemmas.List.Sums.{prefix_len-le-length, fold-append}
 use Rattle.cg_base.specs.Lists.{above_up_to}
 use Rattle.cg_base.specs.ListLaws.{length-count_up}
 use Rattle.cg_base.specs.Sets.{has}
+use Rattle.cg_base.specs.FindLaws.{found_passes}
 use Rattle.cg_knowledge.specs.Summaries.{gone, remaining}
 use Rattle.cg_knowledge.specs.Verdict.{decides}
 use Rattle.cg_wire.specs.declared.message.Msg.{Msg}
@@ -29,7 +30,6 @@ use Rattle.cg_model.specs.FactsReplica.{HasModeData, IsInAttempt, IsModeData, ow
 use Rattle.cg_model.specs.FactsAttempts.{AttemptShape}
 use Rattle.cg_model.specs.Small.{Hands, small_step}
 use Rattle.cg_model.specs.Smalls.{may_make}
-use Rattle.cg_agree_lemmas.specs.HandSays.{find-holds}
 use Rattle.cg_agree_lemmas.specs.TalkCommute.{legal-append}
 use Rattle.cg_agree_lemmas.specs.SaidSoFar.{rest-through}
 use Rattle.cg_agree_lemmas.specs.HandsTalk.{HasAnswer, SaidFacts, hands-said}
@@ -70,7 +70,7 @@ hosted w p there = at (node_of w p) refl there where
 
   at : (o : Option Node) → node_of w p ≡ o → is_some (option_and_then (λ s. running s.life) o) ≡ true → Sits w p
   at None e there = absurd (let no : false ≡ true = there in cc)
-  at (Some s) e there = up s s.life refl (eqb-true s.id p (find-holds (λ (s : Node). s.id == p) w.nodes s e)) e there
+  at (Some s) e there = up s s.life refl (eqb-true s.id p (found_passes (λ (s : Node). s.id == p) w.nodes s e)) e there
 
 -- below its length a list has something
 pub some-at : {X : Type 0} (xs : List X) (n : ℕ) → n < length xs → (x : X) × (slice_get xs n ≡ Some x)

@@ -4,6 +4,7 @@ use Rattle.std.specs.Prelude.{◌==◌, slice_get}
 use Rattle.std.proofs.lemmas.Bool.{cases_Bool, cond_both, and_parts}
 use Rattle.std.proofs.lemmas.List.Sums.{fold-append}
 use Rattle.cg_base.specs.Sets.{has, is_within, with_member}
+use Rattle.cg_base.specs.FindLaws.{found_passes}
 use Rattle.cg_action.specs.declared.action.Action.{Action}
 use Rattle.cg_knowledge.specs.declared.summary.Summary.{Summary}
 use Rattle.cg_knowledge.specs.Summaries.{gone, senders}
@@ -31,7 +32,6 @@ use Rattle.cg_model.specs.FactsReplica.{IsCore}
 use Rattle.cg_model.specs.FactsTalk.{whole_talk, handed_talk, AreTold, summaries_of, AreContents, Content, TalkFacts}
 use Rattle.cg_agree_lemmas.specs.DeliveriesSay.{sent-mark_yellow}
 use Rattle.cg_agree_lemmas.specs.FrontFacts.{Front-refl, Front-append, Front-trans}
-use Rattle.cg_agree_lemmas.specs.HandSays.{find-holds}
 use Rattle.cg_agree_lemmas.specs.HandState.{kept-mark_red}
 use Rattle.cg_agree_lemmas.specs.HandTalk.{sent-mark_red, sent-mark_green, sent-install, sent-mark_item, sent-mark_green_at, id-mark_green_at, id-take_item}
 use Rattle.cg_agree_lemmas.specs.HandsKept.{take-drop}
@@ -205,7 +205,7 @@ module _ (c : Chronicle) (p conf : ℕ) (r : Replica) (disk : Disk) (s : Sent Ms
     count = (subst (λ o. IfSome o (IsSummary c)) found (summaries.fits conf p)).count
 
     named : t.summary.id ≡ p
-    named = eqb-true t.summary.id p (and_parts (t.summary.conf == conf) (t.summary.id == p) (find-holds (λ (t : Told). (t.summary.conf == conf) && (t.summary.id == p)) c.told t found)).1
+    named = eqb-true t.summary.id p (and_parts (t.summary.conf == conf) (t.summary.id == p) (found_passes (λ (t : Told). (t.summary.conf == conf) && (t.summary.id == p)) c.told t found)).1
 
     front : Front t.greens (greens_of c p)
     front =

@@ -32,13 +32,6 @@ module _ {X : Type 0} (key : X → ℕ) where
 
 module _ {X : Type 0} where
   -- what is found in two lists
-  pub find-append : (t : X → Bool) (xs ys : List X) (x : X) → find t xs ≡ Some x → find t (xs ++ ys) ≡ Some x
-  find-append t [] ys x e = absurd (let clash : None ≡ Some x = e in cc)
-  find-append t (y ∷ xs) ys x e = ⊎_elim
-      (λ yes. rw yes (let g : cond (t y) (Some y) (find t xs) ≡ Some x = e in sym (cond-true (t y) (Some y) (find t xs) yes) ∙ g))
-      (λ no. rw no (find-append t xs ys x (sym (cond-false (t y) (Some y) (find t xs) no) ∙ e)))
-      (cases_Bool (t y))
-
   pub find-none : (t : X → Bool) (xs ys : List X) → find t xs ≡ None → find t (xs ++ ys) ≡ find t ys
   find-none t [] ys e = refl
   find-none t (y ∷ xs) ys e = ⊎_elim

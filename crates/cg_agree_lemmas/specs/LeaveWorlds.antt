@@ -13,6 +13,7 @@ use Rattle.cg_group.specs.State.{Standing, Configuration, GroupState, configurat
 use Rattle.cg_group.specs.Events.{send_all, deliveries_at, transitional_places}
 use Rattle.cg_group.specs.Refusals.{sender_at}
 use Rattle.cg_base.specs.EachLaws.{Each-above, Each-weaker}
+use Rattle.cg_base.specs.MemberLaws.{has_count_up, list_any_in}
 use Rattle.cg_client.specs.Turn.{Turn, begin}
 use Rattle.cg_client.specs.Requests.{settle}
 use Rattle.cg_disk_records.specs.Crash.{Disk}
@@ -86,11 +87,6 @@ has-filtered t (x ∷ xs) n is there =
     (λ later. cond_both (t x) (x ∷ filter t xs) (filter t xs) (λ list. has list n ≡ true) (λ y. or_right (x == n) (has (filter t xs) n) (has-filtered t xs n is later)) (λ f. has-filtered t xs n is later))
     (or_cases (x == n) (has xs n) there)
 
-any-of : (t : ℕ → Bool) (set : List ℕ) (q : ℕ) → has set q ≡ true → t q ≡ true → list_any t set ≡ true
-any-of t [] q there is = absurd (let clash : false ≡ true = there in cc)
-any-of t (x ∷ set) q there is =
-    ⊎_elim (λ here. (let of_x : t x ≡ true = ap t (eqb-true x q here) ∙ is in rw of_x refl)) (λ later. or_right (t x) (list_any t set) (any-of t set q later is)) (or_cases (x == q) (has set q) there)
-
 any-kept : (t u : ℕ → Bool) → ((q : ℕ) → t q ≡ true → u q ≡ true) → (set : List ℕ) → list_any t set ≡ true → list_any u set ≡ true
 any-kept t u kept [] some = some
 any-kept t u kept (x ∷ set) some =
@@ -108,16 +104,6 @@ filter-each t (x ∷ xs) P each =
 implied : (a b : Bool) → (a ≡ true → b ≡ true) → implies a b ≡ true
 implied true b f = f refl
 implied false b f = refl
-
--- between two numbers each is among them
-pub has-counted : (n from k : ℕ) → from ≤ k → k < from + n → has (count_up from n) k ≡ true
-has-counted zero from k le less = absurd (omega arith)
-has-counted (suc n) from k le less =
-    ⊎_elim (λ here. rw here refl)
-    (λ other. or_right (from == k) (has (count_up (suc from) n) k) (has-counted n (suc from) k (apart from k le other) (omega arith)))
-    (cases_Bool (from == k)) where
-      apart : (m k : ℕ) → m ≤ k → (m == k) ≡ false → suc m ≤ k
-      apart m k le other = let ne : m ≡ k → ⊥ = eqb-false m k other in omega arith
 
 module _ (c : Configuration Msg) (set : List ℕ) (p last : ℕ) (is : has set p ≡ true)
     (closed : (q earlier place : ℕ) → 0 < earlier → earlier < place → sender_at c earlier ≡ sender_at c place → has_received c q place ≡ true → has_received c q earlier ≡ true) where
@@ -141,12 +127,12 @@ module _ (c : Configuration Msg) (set : List ℕ) (p last : ℕ) (is : has set p
 
   has-going : (place : ℕ) → last < place → place ≤ long → some_has place ≡ true → has going place ≡ true
   unfolding transitional_places
-  has-going place less le some = has-filtered some_has (above_up_to last long) place some (has-counted (long - last) (suc last) place (omega arith) (omega arith))
+  has-going place less le some = has-filtered some_has (above_up_to last long) place some (has_count_up (suc last) (long - last) place (omega arith) (omega arith))
 
   places-received : hold_received c p last going ≡ true
   places-received = all-each _ (above_up_to last long)
       (Each-weaker (λ k. (last < k) × (k ≤ long)) (λ k. implies (has_received c p k) (has going k) ≡ true)
-      (λ k b. implied (has_received c p k) (has going k) (λ got. has-going k b.0 b.1 (any-of (λ q. has_received c q k) set p is got)))
+      (λ k b. implied (has_received c p k) (has going k) (λ got. has-going k b.0 b.1 (list_any_in (λ q. has_received c q k) set p is got)))
       (above_up_to last long) (Each-above last long))
 
   places-earlier : hold_earlier c last going ≡ true

@@ -2,6 +2,7 @@
 use Rattle.std.proofs.Common.{◌≡◌, ℕ, suc, ◌+◌, ◌≤◌, true, false, List, [], ◌∷◌, ◌++◌, drop, length, Option, Some, None, IfSome, sym, ap, ap₂, ◌∙◌, subst, arith, option_and_then}
 use Rattle.std.proofs.lemmas.List.{length-drop}
 use Rattle.cg_base.specs.declared.weighted.Weighted.{Weighted}
+use Rattle.cg_base.specs.ListLaws.{length-dropped}
 use Rattle.cg_action.specs.declared.action.Action.{Action}
 use Rattle.cg_members.specs.Members.{Members}
 use Rattle.cg_members.specs.Listed.{line_of}
@@ -27,7 +28,6 @@ use Rattle.cg_agree_lemmas.specs.CoresSmall.{StepKeeps, cores-kept, ready-of}
 use Rattle.cg_agree_lemmas.specs.GreenMembers.{FollowsGreens, greens-behind, own-same, takes-follow, settles-follow, asks-follow, newly-more}
 use Rattle.cg_agree_lemmas.specs.LinesGreens.{lines-above}
 use Rattle.cg_agree_lemmas.specs.LinesMade.{white-line-below}
-use Rattle.cg_disk_records.specs.HoldsValueLaws.{dropped}
 
 -- ---- what a turn leaves
 
@@ -39,7 +39,7 @@ follows-all : (c : Chronicle) (r new : Replica) (all : List Action) → IsCore c
     FollowsAll c.start new.held (all ++ newly_green r new)
 follows-all c r new all core white f =
     let h = r.held in
-    let count : green_count h.queue ≡ length all = ap (λ xs. h.queue.white + length xs) core.made_of.kept ∙ dropped h.queue.white all core.made_of.white in
+    let count : green_count h.queue ≡ length all = ap (λ xs. h.queue.white + length xs) core.made_of.kept ∙ length-dropped h.queue.white all core.made_of.white in
     let place : suc (green_count h.queue) ≡ 1 + length all = omega arith in
     let more = newly-more r new f in (
       f.members ∙ ap₂ (λ m n. after_greens m n f.more) core.made_of.members place ∙ sym (greens-behind (starting c.start) 1 all f.more) ∙ ap (λ ys. members_of c.start (all ++ ys)) (sym more),

@@ -1,7 +1,7 @@
 -- The lines of servers behind green actions: that of one who has made nothing is the place of its join, and none falls.
 use Rattle.std.proofs.Common.{◌≡◌, ℕ, suc, ◌+◌, ◌≤◌, ◌<◌, Bool, true, false, cond, not, ◌||◌, ◌⊎◌, inl, inr, List, [], ◌∷◌, map, length, min, max, refl, sym, ap, subst, ◌∙◌, arith, eqb-true, eq-eqb, if◌then◌else◌, nat_lt}
 use Rattle.std.specs.Prelude.{◌==◌}
-use Rattle.std.proofs.lemmas.Bool.{cases_Bool, cond-true, cond-false, cond_both, or_left, or_right, or_cases, ne_eqb, false_from_ne_true}
+use Rattle.std.proofs.lemmas.Bool.{cases_Bool, cond-true, cond-false, cond_both, or_left, or_right, or_cases, ne_eqb, false_from_ne_true, not-false}
 use Rattle.cg_base.specs.Sets.{has, with_member}
 use Rattle.cg_base.specs.SetLaws.{has-with_member}
 use Rattle.cg_base.specs.Lists.{Each}
@@ -42,17 +42,13 @@ line-raised-up (s ∷ servers) p line q =
       two true x y z w a c = a
       two false x y z w a c = c
 
-is-true : (b : Bool) → not b ≡ false → b ≡ true
-is-true true e = refl
-is-true false e = absurd (let clash : true ≡ false = e in cc)
-
 line-without-other : (servers : List Server) (p q : ℕ) → (p ≡ q → ⊥) → line_of (without_server servers p) q ≡ line_of servers q
 line-without-other [] p q apart = refl
 line-without-other (s ∷ servers) p q apart =
     cond_both (not (s.id == p)) (s ∷ without_server servers p) (without_server servers p) (λ xs. line_of xs q ≡ line_of (s ∷ servers) q)
     (λ y. ap (cond (s.id == q) s.line) (line-without-other servers p q apart))
     (λ n. line-without-other servers p q apart
-    ∙ sym (cond-false (s.id == q) s.line (line_of servers q) (ne_eqb s.id q (λ e. apart (sym (eqb-true s.id p (is-true (s.id == p) n)) ∙ e)))))
+    ∙ sym (cond-false (s.id == q) s.line (line_of servers q) (ne_eqb s.id q (λ e. apart (sym (eqb-true s.id p (not-false (s.id == p) n)) ∙ e)))))
 
 among-with-back : (servers : List Server) (new : Server) (q : ℕ) → is_among (with_server servers new) q ≡ true → ((new.id == q) ≡ true) ⊎ (is_among servers q ≡ true)
 among-with-back [] new q = λ there. elim (or_cases (new.id == q) false there) [ inl a ↦ inl a | inr b ↦ absurd (let clash : false ≡ true = b in cc) ]

@@ -3,11 +3,12 @@ use Rattle.std.proofs.Common.{◌≡◌, ℕ, Bool, true, false, List, [], ◌�
 use Rattle.std.specs.Prelude.{◌==◌, nat_le, nat_lt, not, ◌&&◌, ◌||◌, suc, zero, ◌≤◌, ◌<◌}
 use Rattle.std.specs.Option.{option_to_list}
 use Rattle.std.specs.List.{list_all}
-use Rattle.std.proofs.lemmas.Bool.{cases_Bool, cond-false, and_parts, not-true, leb-true, leb-false}
+use Rattle.std.proofs.lemmas.Bool.{cases_Bool, cond-false, and_parts, not-true, leb-true, leb-false, or_parts}
 use Rattle.cg_base.specs.declared.action_id.ActionId.{ActionId}
 use Rattle.cg_base.specs.declared.weighted.Weighted.{Weighted}
 use Rattle.cg_base.specs.Cuts.{index_in}
 use Rattle.cg_base.specs.Ids.{same_id, has_name}
+use Rattle.cg_base.specs.IdLaws.{same_id-is}
 use Rattle.cg_action.specs.declared.action.Action.{Action}
 use Rattle.cg_queue.specs.Queue.{QueueView, names_of, action_of, discarded}
 use Rattle.cg_group.specs.declared.phase.Phase.{Phase}
@@ -26,7 +27,6 @@ use Rattle.cg_model.specs.FactsReplica.{is_attempting}
 use Rattle.cg_agree_lemmas.specs.EndCuts.{run-above}
 use Rattle.cg_agree_lemmas.specs.ExchangeStill.{OneMoves}
 use Rattle.cg_agree_lemmas.specs.HeldMarks.{IsOneself}
-use Rattle.cg_agree_lemmas.specs.NamesAscend.{same-parts}
 use Rattle.cg_disk_records.specs.Holds.{cut_behind}
 use Rattle.cg_agree_lemmas.specs.SameAttempt.{KeepsAttempts}
 use Rattle.cg_agree_lemmas.specs.TurnKinds.{IsQuiet}
@@ -127,19 +127,15 @@ one-list c d p now n up moves keeps own old q = ⊎_elim
 
 -- ---- greens that are discarded
 
-or-none : (a b : Bool) → (a || b) ≡ false → (a ≡ false) × (b ≡ false)
-or-none true b e = absurd (let clash : true ≡ false = e in cc)
-or-none false b e = (refl, e)
-
 -- no green has the name of an action above the green cut
 none-green : (actions : List Action) (id : ActionId) → has_name (names_of actions) id ≡ false → find (λ (a : Action). same_id a.id id) actions ≡ None
 none-green [] id e = refl
 none-green (a ∷ actions) id e =
-    let parts = or-none (same_id id a.id) (has_name (names_of actions) id) e in
+    let parts = or_parts (same_id id a.id) (has_name (names_of actions) id) e in
     cond-false (same_id a.id id) (Some a) (find (λ (a : Action). same_id a.id id) actions) (turned (same_id a.id id) refl parts.0) ∙ none-green actions id parts.1 where
       turned : (b : Bool) → same_id a.id id ≡ b → same_id id a.id ≡ false → same_id a.id id ≡ false
       turned true e apart =
-          let one : a.id ≡ id = same-parts a.id id e in
+          let one : a.id ≡ id = same_id-is a.id id e in
           absurd (let clash : true ≡ false = sym e ∙ ap₂ same_id one (sym one) ∙ apart in cc)
       turned false e apart = e
 
@@ -153,7 +149,7 @@ find-behind (x ∷ xs) ys t none = at (t x) none (λ rest. find-behind xs ys t r
 names-drop : (n : ℕ) (xs : List Action) (id : ActionId) → has_name (names_of xs) id ≡ false → has_name (names_of (drop n xs)) id ≡ false
 names-drop zero xs id e = e
 names-drop (suc n) [] id e = e
-names-drop (suc n) (x ∷ xs) id e = names-drop n xs id (or-none (same_id id x.id) (has_name (names_of xs) id) e).1
+names-drop (suc n) (x ∷ xs) id e = names-drop n xs id (or_parts (same_id id x.id) (has_name (names_of xs) id) e).1
 
 -- A name above the green cut is found among the reds alone.
 named-red : (start : List Weighted) (h : Held) (all : List Action) (id : ActionId) → IsOneself start h all → index_in h.queue.green_cut id.creator < id.index →

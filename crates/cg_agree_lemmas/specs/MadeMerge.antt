@@ -4,9 +4,11 @@ use Rattle.std.specs.Prelude.{◌==◌}
 use Rattle.std.specs.Option.{option_map_or}
 use Rattle.std.specs.List.{list_all}
 use Rattle.std.proofs.lemmas.Bool.{and_from, cond-true}
+use Rattle.std.proofs.lemmas.List.Folds.{flat_map-map, fold-map}
 use Rattle.cg_base.specs.Lists.{at_place, Each}
 use Rattle.cg_base.specs.Sets.{has, IsSet}
 use Rattle.cg_base.specs.Text.{is_nil}
+use Rattle.cg_base.specs.ListLaws.{length-more}
 use Rattle.cg_wire.specs.declared.message.Msg.{Msg}
 use Rattle.cg_group.specs.declared.phase.Phase.{Phase}
 use Rattle.cg_group.specs.declared.phase.Phase.TheVariants.{Down, Regular}
@@ -33,15 +35,10 @@ use Rattle.cg_model.specs.Played.{IsSame}
 use Rattle.cg_agree_lemmas.specs.PartsTaken.{part-settle}
 use Rattle.cg_agree_lemmas.specs.GroupChanges.{DoRise}
 use Rattle.cg_agree_lemmas.specs.MadeQuietly.{IsMadeIn, same-lined, set-is}
-use Rattle.cg_agree_lemmas.specs.MadeSplit.{fold-map, flat_map-map}
 use Rattle.cg_agree_lemmas.specs.TurnWorlds.{hosted, up_node, runs-hosted, turn-first, part-joins}
 use Rattle.cg_agree_lemmas.specs.EventTurns.{IsUp}
 use Rattle.cg_agree_lemmas.specs.TogetherWorlds.{IsStill, IsMember, IsGoing, handed_among, smalls_among, turns_among, together}
 use Rattle.cg_agree_lemmas.specs.SmallWorlds.{grouped, small_in, may_in, noting_nothing, played_in, MayIn}
-
-pub length-next : {X : Type 0} (xs : List X) (x : X) → length (xs ++ x ∷ []) ≡ suc (length xs)
-length-next [] x = refl
-length-next (y ∷ xs) x = ap suc (length-next xs x)
 
 -- the turns of a merge are those of its members
 pub turns-merge : (w : World) (set : List ℕ) → turns_in w (merge w.group set) ≡ flat_map (λ q. taken w q (Deliveries (RegularIn (suc (length w.group.configurations)) set ∷ []))) set
@@ -74,7 +71,7 @@ module _ (w : World) (set : List ℕ) where
   block q = Enters q ∷ Settles q ∷ []
 
   newest-is : (h : GroupState Msg) → h.configurations ≡ made.configurations → newest_conf h ≡ conf
-  newest-is h same = ap length same ∙ length-next g.configurations fresh_conf
+  newest-is h same = ap length same ∙ length-more g.configurations fresh_conf
 
   conf-is : (h : GroupState Msg) → h.configurations ≡ made.configurations → configuration h conf ≡ fresh_conf
   unfolding configuration

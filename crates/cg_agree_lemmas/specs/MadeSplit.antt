@@ -3,8 +3,10 @@ use Rattle.std.proofs.Common.{◌≡◌, ℕ, suc, ◌+◌, ◌-◌, ◌≤◌, 
 use Rattle.std.specs.Prelude.{◌==◌}
 use Rattle.std.specs.Option.{option_map_or}
 use Rattle.std.proofs.lemmas.Bool.{or_cases}
+use Rattle.std.proofs.lemmas.List.Folds.{flat_map-map, fold-map}
 use Rattle.cg_base.specs.Lists.{above_up_to, Each}
 use Rattle.cg_base.specs.Sets.{has, Ascends}
+use Rattle.cg_base.specs.ListLaws.{fold_max-from}
 use Rattle.cg_wire.specs.declared.message.Msg.{Msg}
 use Rattle.cg_group.specs.declared.phase.Phase.{Phase}
 use Rattle.cg_group.specs.declared.phase.Phase.TheVariants.{Down, Transitional}
@@ -42,30 +44,16 @@ use Rattle.cg_agree_lemmas.specs.SmallWorlds.{grouped, small_in, may_in, played_
 
 -- ---- lists
 
-pub fold-map : {X Y Z : Type 0} (f : Z → Y → Z) (k : X → Y) (z : Z) (xs : List X) → fold f z (map k xs) ≡ fold (λ z x. f z (k x)) z xs
-fold-map f k z [] = refl
-fold-map f k z (x ∷ xs) = fold-map f k (f z (k x)) xs
-
-pub flat_map-map : {X Y Z : Type 0} (f : Y → List Z) (k : X → Y) (xs : List X) → flat_map f (map k xs) ≡ flat_map (λ x. f (k x)) xs
-flat_map-map f k [] = refl
-flat_map-map f k (x ∷ xs) = ap (λ zs. f (k x) ++ zs) (flat_map-map f k xs)
-
 -- a set's list rises
 pub rising-set-list : (low : ℕ) (set : List ℕ) → Ascends low set → IsRising low set
 rising-set-list low [] a = tt
 rising-set-list low (p ∷ set) a = (a.0, rising-set-list (suc p) set a.2)
 
 -- the greatest of numbers is no less than each, and no more than what none is more than
-greatest-above : (ns : List ℕ) (m : ℕ) → m ≤ fold max m ns
-greatest-above [] m = omega arith
-greatest-above (n ∷ ns) m = let rest : max m n ≤ fold max (max m n) ns = greatest-above ns (max m n) in let le : m ≤ max m n = max-left m n in omega (arith, rest, le) where
-  max-left : (m n : ℕ) → m ≤ max m n
-  max-left m n = omega arith
-
 pub greatest-each : (f : ℕ → ℕ) (set : List ℕ) (m p : ℕ) → has set p ≡ true → f p ≤ fold max m (map f set)
 greatest-each f [] m p there = absurd (let clash : false ≡ true = there in cc)
 greatest-each f (q ∷ set) m p there = ⊎_elim
-    (λ here. (let same : q ≡ p = eqb-true q p here in let rest : max m (f q) ≤ fold max (max m (f q)) (map f set) = greatest-above (map f set) (max m (f q)) in
+    (λ here. (let same : q ≡ p = eqb-true q p here in let rest : max m (f q) ≤ fold max (max m (f q)) (map f set) = fold_max-from (max m (f q)) (map f set) in
     subst (λ x. f x ≤ fold max (max m (f q)) (map f set)) same (let le : f q ≤ max m (f q) = max-right m (f q) in omega (arith, rest, le))))
     (λ later. greatest-each f set (max m (f q)) p later)
     (or_cases (q == p) (has set p) there) where

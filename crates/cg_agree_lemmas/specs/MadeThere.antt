@@ -7,6 +7,7 @@ use Rattle.cg_base.specs.declared.action_id.ActionId.{ActionId}
 use Rattle.cg_base.specs.Ids.{has_name, same_id}
 use Rattle.cg_base.specs.Cuts.{index_in}
 use Rattle.cg_base.specs.IdLaws.{same_name}
+use Rattle.cg_base.specs.ElementLaws.{contains-later, contains-here}
 use Rattle.cg_action.specs.declared.action.Action.{Action}
 use Rattle.cg_queue.specs.Queue.{QueueView, names_of}
 use Rattle.cg_client.specs.Replica.{Held, created}
@@ -20,19 +21,13 @@ use Rattle.cg_disk_records.specs.RunMarkLaws.{run-names}
 
 -- ---- names and elements
 
-pub contains-here : {X : Type 0} (x : X) (xs : List X) → Contains (x ∷ xs) x
-contains-here x xs = (0, (omega arith), refl)
-
-pub contains-later : {X : Type 0} (y x : X) (xs : List X) → Contains xs x → Contains (y ∷ xs) x
-contains-later y x xs is = Contains-append_right (y ∷ []) xs x is
-
 pub contains-named : (ids : List ActionId) (id : ActionId) → has_name ids id ≡ true → Contains ids id
 contains-named [] id is = absurd (let clash : false ≡ true = is in cc)
 contains-named (x ∷ ids) id is = elim (or_cases (same_id id x) (has_name ids id) is) [
   | inl here ↦
       let parts = and_parts (id.creator == x.creator) (id.index == x.index) here in
       subst (λ (y : ActionId). Contains (x ∷ ids) y) (sym (same_name id x (eqb-true id.creator x.creator parts.0) (eqb-true id.index x.index parts.1))) (contains-here x ids)
-  | inr later ↦ contains-later x id ids (contains-named ids id later)
+  | inr later ↦ contains-later x ids id (contains-named ids id later)
 ]
 
 -- ---- reds that aren't yellow

@@ -3,6 +3,9 @@ use Rattle.std.proofs.Common.{◌≡◌, ℕ, suc, ◌+◌, ◌-◌, ◌≤◌, 
 use Rattle.std.specs.Prelude.{◌==◌}
 use Rattle.std.specs.Option.{option_map_or}
 use Rattle.std.proofs.lemmas.Bool.{cases_Bool, cases_eq, cond-true, cond-false, ne_eqb, leb-true, leb-false, and_from}
+use Rattle.std.proofs.lemmas.List.Elements.{filter-append}
+use Rattle.std.proofs.lemmas.Option.{same_Some}
+use Rattle.cg_base.specs.FindLaws.{found_passes}
 use Rattle.cg_members.specs.Servers.{is_server}
 use Rattle.cg_group.specs.declared.reason.Reason.TheVariants.{JoinNotGreen}
 use Rattle.cg_group.specs.LookupLaws.{at-cond}
@@ -20,7 +23,6 @@ use Rattle.cg_model.specs.Smalls.{may_make, smalls_in, copy_steps, join_steps}
 use Rattle.cg_model.specs.FactsLists.{AreForServers}
 use Rattle.cg_model.specs.Played.{IsSame, GivenSnapshot}
 use Rattle.cg_agree_lemmas.specs.UnorderedKept.{first-none, refused-not}
-use Rattle.cg_agree_lemmas.specs.HandSays.{find-holds}
 use Rattle.cg_agree_lemmas.specs.MadeQuietly.{IsMadeIn, same-worlds}
 use Rattle.cg_agree_lemmas.specs.MadeAlone.{is-running}
 use Rattle.cg_agree_lemmas.specs.SmallWorlds.{small_in, may_in, copy_in, join_in, played_in, MayIn}
@@ -30,9 +32,6 @@ use Rattle.cg_group.specs.RefusalLaws.{refuse_none}
 -- ---- lists
 
 module _ {X : Type 0} (t u : X → Bool) where
-  some-of : (x y : X) → Some x ≡ Some y → x ≡ y
-  some-of x y e = ap (λ o. option_map_or (λ z. z) o x) e
-
   -- what isn't found isn't found with more
   pub neither : (xs : List X) → find t xs ≡ None → find (λ x. t x && u x) xs ≡ None
   neither [] e = refl
@@ -58,7 +57,7 @@ module _ {X : Type 0} (t u : X → Bool) where
   only-one (x ∷ xs) s e le = ⊎_elim
       (λ y. (let all = cond-true (t x) (x ∷ filter t xs) (filter t xs) y in
       let rest = nothing-of (filter t xs) (subst (λ list. length list ≤ 1) all le) in
-      all ∙ ap₂ (λ z zs. z ∷ zs) (some-of x s (sym (cond-true (t x) (Some x) (find t xs) y) ∙ e)) rest))
+      all ∙ ap₂ (λ z zs. z ∷ zs) (same_Some x s (sym (cond-true (t x) (Some x) (find t xs) y) ∙ e)) rest))
       (λ n. (let all = cond-false (t x) (x ∷ filter t xs) (filter t xs) n in
       all ∙ only-one xs s (sym (cond-false (t x) (Some x) (find t xs) n) ∙ e) (subst (λ list. length list ≤ 1) all le)))
       (cases_Bool (t x))
@@ -69,7 +68,7 @@ module _ {X : Type 0} (t u : X → Bool) where
   only-both (x ∷ xs) s e le = ⊎_elim
       (λ y. (let all = cond-true (t x) (x ∷ filter t xs) (filter t xs) y in
       let rest = neither xs (none-filtered xs (nothing-of (filter t xs) (subst (λ list. length list ≤ 1) all le))) in
-      let here : x ≡ s = some-of x s (sym (cond-true (t x) (Some x) (find t xs) y) ∙ e) in
+      let here : x ≡ s = same_Some x s (sym (cond-true (t x) (Some x) (find t xs) y) ∙ e) in
       ap (λ b. cond (b && u x) (Some x) (find (λ x. t x && u x) xs)) y ∙ ap (λ o. cond (u x) (Some x) o) rest ∙ ap (λ z. cond (u z) (Some z) None) here))
       (λ n. ap (λ b. cond (b && u x) (Some x) (find (λ x. t x && u x) xs)) n
       ∙ only-both xs s (sym (cond-false (t x) (Some x) (find t xs) n) ∙ e) (subst (λ list. length list ≤ 1) (cond-false (t x) (x ∷ filter t xs) (filter t xs) n) le))
@@ -99,11 +98,6 @@ module _ {X : Type 0} (key : X → ℕ) (j : ℕ) where
     | inl same ↦ rw (eq-eqb (key x) j same, ne_eqb (key x) k (λ e. apart (sym e ∙ same))) (others-other k apart xs)
     | inr other ↦ rw (ne_eqb (key x) j other) (ap (λ zs. cond (key x == k) (x ∷ zs) zs) (others-other k apart xs))
   ]
-
-pub filter-append : {X : Type 0} (t : X → Bool) (xs ys : List X) → filter t (xs ++ ys) ≡ filter t xs ++ filter t ys
-filter-append t [] ys = refl
-filter-append t (x ∷ xs) ys =
-    ap (λ zs. cond (t x) (x ∷ zs) zs) (filter-append t xs ys) ∙ sym (at-cond (λ zs. zs ++ filter t ys) (t x) (x ∷ filter t xs) (filter t xs))
 
 -- the joiner of a snapshot that is found is a server there
 pub served-found : (joiner : ℕ) (list : List TransferState) (s : TransferState) → AreForServers list → find (λ s. s.joiner == joiner) list ≡ Some s → is_server s.content.members joiner ≡ true
@@ -221,7 +215,7 @@ module _ (w : World) (p joiner pieces : ℕ) (r : Replica) (is : replica_of w p 
   of-own s there = record {
     group = refl;
     nodes = refl;
-    joiner_is = eqb-true s.joiner joiner (find-holds (λ (s : TransferState). s.joiner == joiner) w.snapshots s there);
+    joiner_is = eqb-true s.joiner joiner (found_passes (λ (s : TransferState). s.joiner == joiner) w.snapshots s there);
     found = s;
     there = there;
     content = refl;

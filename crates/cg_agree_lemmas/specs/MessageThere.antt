@@ -6,6 +6,7 @@ use Rattle.std.proofs.lemmas.Bool.{cases_Bool, cond-true, cond-false, and_parts,
 use Rattle.cg_base.specs.declared.action_id.ActionId.{ActionId}
 use Rattle.cg_base.specs.Cuts.{index_in}
 use Rattle.cg_base.specs.Ids.{same_id, has_name}
+use Rattle.cg_base.specs.IdLaws.{same_id-back}
 use Rattle.cg_action.specs.declared.action.Action.{Action}
 use Rattle.cg_queue.specs.Queue.{names_of}
 use Rattle.cg_wire.specs.declared.message.Msg.{Msg}
@@ -46,17 +47,11 @@ booked-at c (x ∷ list) zero s a are e is =
     (subst (λ o. AreBooked c (put o (filter_map (λ (s : Sent Msg). action_in s.message) list))) (ap (λ (y : Sent Msg). action_in y.message) same ∙ is) are).0
 booked-at c (x ∷ list) (suc n) s a are e is = booked-at c list n s a (rest-booked c (λ (s : Sent Msg). action_in s.message) x list are) e is
 
--- names are the same in both directions
-turned : (m n : ActionId) → same_id m n ≡ true → same_id n m ≡ true
-turned m n e =
-    let parts = and_parts (m.creator == n.creator) (m.index == n.index) e in
-    and_from (n.creator == m.creator) (n.index == m.index) (eqb_comm n.creator m.creator ∙ parts.0) (eqb_comm n.index m.index ∙ parts.1)
-
 -- a booked name is one of the book's
 found-named : (book : List Action) (id : ActionId) (a : Action) → find (λ (b : Action). same_id b.id id) book ≡ Some a → has_name (names_of book) id ≡ true
 found-named [] id a e = absurd (let clash : None ≡ Some a = e in cc)
 found-named (b ∷ book) id a e = ⊎_elim
-    (λ here. or_left (same_id id b.id) (has_name (names_of book) id) (turned b.id id here))
+    (λ here. or_left (same_id id b.id) (has_name (names_of book) id) (same_id-back b.id id here))
     (λ other. or_right (same_id id b.id) (has_name (names_of book) id)
     (found-named book id a (sym (cond-false (same_id b.id id) (Some b) (find (λ (b : Action). same_id b.id id) book) other) ∙ e)))
     (cases_Bool (same_id b.id id))

@@ -5,14 +5,15 @@ use Rattle.std.proofs.lemmas.Bool.{cases_eq, cases_lt, cases_Bool, and_parts, an
 use Rattle.cg_base.specs.declared.action_id.ActionId.{ActionId}
 use Rattle.cg_base.specs.Cuts.{index_in}
 use Rattle.cg_base.specs.Ids.{same_id, id_before, has_name}
-use Rattle.cg_base.specs.IdLaws.{same_id-true, same_id-false, same_name}
+use Rattle.cg_base.specs.IdLaws.{same_id-true, same_id-false, same_name, before-index, before-creator, same_id-self, same_id-is}
 use Rattle.cg_base.specs.Lists.{count_up, Each}
 use Rattle.cg_base.specs.Sets.{has}
 use Rattle.cg_base.specs.IdRuns.{names_above}
 use Rattle.cg_base.specs.EachLaws.{Each-append}
+use Rattle.cg_base.specs.BoolLaws.{or_false}
 use Rattle.cg_model.specs.FactsLists.{IsRising}
 use Rattle.cg_disk_records.specs.Holds.{run_on, cut_behind, ascend, Rising}
-use Rattle.cg_disk_records.specs.RunMarkLaws.{run-names, before-parts, before-creator, before-index, before-trans, ascend-less}
+use Rattle.cg_disk_records.specs.RunMarkLaws.{run-names, before-parts, before-trans, ascend-less}
 use Rattle.cg_agree_lemmas.specs.EventSays.{names-both}
 
 -- ---- names in order
@@ -29,12 +30,6 @@ ascend-each x (y ∷ ids) up =
     let parts = and_parts (id_before x y) (ascend (y ∷ ids)) up in
     (parts.0, each-later x y ids parts.0 (ascend-each y ids parts.1))
 
-pub same-parts : (x y : ActionId) → same_id x y ≡ true → x ≡ y
-same-parts x y e = let parts = and_parts (x.creator == y.creator) (x.index == y.index) e in same_name x y (eqb-true x.creator y.creator parts.0) (eqb-true x.index y.index parts.1)
-
-same-itself : (x : ActionId) → same_id x x ≡ true
-same-itself x = same_id-true x x refl refl
-
 -- none comes before itself
 before-apart : (x y : ActionId) → id_before x y ≡ true → id_before y x ≡ true → ⊥
 before-apart x y one two = ⊎_elim
@@ -47,7 +42,7 @@ before-apart x y one two = ⊎_elim
 named-later : (x y : ActionId) (ids : List ActionId) → Each (λ z. id_before x z ≡ true) ids → has_name ids y ≡ true → id_before x y ≡ true
 named-later x y [] each e = absurd (let clash : false ≡ true = e in cc)
 named-later x y (z ∷ ids) each e = ⊎_elim
-    (λ here. subst (λ w. id_before x w ≡ true) (sym (same-parts y z here)) each.0)
+    (λ here. subst (λ w. id_before x w ≡ true) (sym (same_id-is y z here)) each.0)
     (λ there. named-later x y ids each.1 there)
     (or_cases (same_id y z) (has_name ids y) e)
 
@@ -58,12 +53,12 @@ absent x ids up = ⊎_elim (λ there. (let later = named-later x x ids (ascend-e
 -- the first of two lists in order with the same names is one
 same-first : (x y : ActionId) (xs ys : List ActionId) → ascend (x ∷ xs) ≡ true → ascend (y ∷ ys) ≡ true → ((id : ActionId) → has_name (x ∷ xs) id ≡ has_name (y ∷ ys) id) → x ≡ y
 same-first x y xs ys up down same =
-    let mine : has_name (y ∷ ys) x ≡ true = sym (same x) ∙ or_left (same_id x x) (has_name xs x) (same-itself x) in
-    let other : has_name (x ∷ xs) y ≡ true = same y ∙ or_left (same_id y y) (has_name ys y) (same-itself y) in
+    let mine : has_name (y ∷ ys) x ≡ true = sym (same x) ∙ or_left (same_id x x) (has_name xs x) (same_id-self x) in
+    let other : has_name (x ∷ xs) y ≡ true = same y ∙ or_left (same_id y y) (has_name ys y) (same_id-self y) in
     ⊎_elim
-    (λ (here : same_id x y ≡ true). same-parts x y here)
+    (λ (here : same_id x y ≡ true). same_id-is x y here)
     (λ (later : has_name ys x ≡ true). ⊎_elim
-    (λ (here : same_id y x ≡ true). sym (same-parts y x here))
+    (λ (here : same_id y x ≡ true). sym (same_id-is y x here))
     (λ (there : has_name xs y ≡ true). absurd (before-apart y x (named-later y x ys (ascend-each y ys down) later) (named-later x y xs (ascend-each x xs up) there)))
     (or_cases (same_id y x) (has_name xs y) other))
     (or_cases (same_id x y) (has_name ys x) mine)
@@ -72,7 +67,7 @@ same-first x y xs ys up down same =
 same-rest : (x y : ActionId) (xs ys : List ActionId) → ascend (x ∷ xs) ≡ true → ascend (y ∷ ys) ≡ true → ((id : ActionId) → has_name (x ∷ xs) id ≡ has_name (y ∷ ys) id) → x ≡ y → (id : ActionId) → has_name xs id ≡ has_name ys id
 same-rest x y xs ys up down same e id = ⊎_elim
     (λ (here : same_id id x ≡ true).
-    let me : id ≡ x = same-parts id x here in
+    let me : id ≡ x = same_id-is id x here in
     ap (has_name xs) me ∙ absent x xs up ∙ sym (ap (has_name ys) (me ∙ e) ∙ absent y ys down))
     (λ (apart : same_id id x ≡ false).
     sym (ap (λ b. b || has_name xs id) apart) ∙ same id ∙ ap (λ b. b || has_name ys id) (ap (same_id id) (sym e) ∙ apart))
@@ -81,8 +76,8 @@ same-rest x y xs ys up down same e id = ⊎_elim
 -- two lists in order that have the same names are one
 pub same-ascending : (xs ys : List ActionId) → ascend xs ≡ true → ascend ys ≡ true → ((id : ActionId) → has_name xs id ≡ has_name ys id) → xs ≡ ys
 same-ascending [] [] up down same = refl
-same-ascending [] (y ∷ ys) up down same = absurd (let clash : false ≡ true = same y ∙ or_left (same_id y y) (has_name ys y) (same-itself y) in cc)
-same-ascending (x ∷ xs) [] up down same = absurd (let clash : false ≡ true = sym (same x) ∙ or_left (same_id x x) (has_name xs x) (same-itself x) in cc)
+same-ascending [] (y ∷ ys) up down same = absurd (let clash : false ≡ true = same y ∙ or_left (same_id y y) (has_name ys y) (same_id-self y) in cc)
+same-ascending (x ∷ xs) [] up down same = absurd (let clash : false ≡ true = sym (same x) ∙ or_left (same_id x x) (has_name xs x) (same_id-self x) in cc)
 same-ascending (x ∷ xs) (y ∷ ys) up down same =
     let e = same-first x y xs ys up down same in
     ap₂ (λ z zs. z ∷ zs) e (same-ascending xs ys (ascend-less x xs up) (ascend-less y ys down) (same-rest x y xs ys up down same e))
@@ -103,10 +98,6 @@ numbered-ascend creator from (suc (suc count)) ids up each =
     let first : ActionId = record { creator = creator; index = from } in
     let second : ActionId = record { creator = creator; index = suc from } in
     and_from (id_before first second) (ascend (numbered creator (suc from) (suc count) ++ ids)) (before-index first second refl (omega arith)) (numbered-ascend creator (suc from) (suc count) ids up each)
-
-or-none : (b : Bool) → (b || false) ≡ b
-or-none true = refl
-or-none false = refl
 
 -- which names these are
 numbered-other : (creator from count : ℕ) (id : ActionId) → (id.creator ≡ creator → ⊥) → has_name (numbered creator from count) id ≡ false
@@ -202,7 +193,7 @@ creators-names low high (creator ∷ list) from id rising =
     (λ (here : id.creator ≡ creator).
     let e : (creator == id.creator) ≡ true = eq-eqb creator id.creator (sym here) in
     let none : has_name (names_of_creators low high list) id ≡ false = creators-names low high list (suc creator) id rising.1 ∙ ap (λ b. b && (nat_lt (low id.creator) id.index && nat_le id.index (high id.creator))) (early list (suc creator) id.creator rising.1 (omega arith)) in
-    ap₂ (λ a b. a || b) (names-above (low creator) (high creator) creator id here) none ∙ or-none (nat_lt (low creator) id.index && nat_le id.index (high creator))
+    ap₂ (λ a b. a || b) (names-above (low creator) (high creator) creator id here) none ∙ or_false (nat_lt (low creator) id.index && nat_le id.index (high creator))
     ∙ ap (λ x. nat_lt (low x) id.index && nat_le id.index (high x)) (sym here)
     ∙ sym (ap (λ b. (b || has list id.creator) && (nat_lt (low id.creator) id.index && nat_le id.index (high id.creator))) e))
     (λ (other : id.creator ≡ creator → ⊥).

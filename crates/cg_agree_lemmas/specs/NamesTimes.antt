@@ -5,14 +5,13 @@ use Rattle.std.proofs.lemmas.Bool.{cases_lt, cases_Bool, cond-true, cond-false, 
 use Rattle.cg_base.specs.declared.action_id.ActionId.{ActionId}
 use Rattle.cg_base.specs.Cuts.{index_in, raise}
 use Rattle.cg_base.specs.Ids.{same_id, has_name}
-use Rattle.cg_base.specs.IdLaws.{same_id-is, same_id-back}
+use Rattle.cg_base.specs.IdLaws.{same_id-is, same_id-back, same_id-self}
 use Rattle.cg_model.specs.Fronts.{Front}
 use Rattle.cg_disk_records.specs.Holds.{run_on, cut_behind, Rising}
 use Rattle.cg_agree_lemmas.specs.FrontFacts.{Front-of_both, Front-append}
 use Rattle.cg_disk_records.specs.CutRaiseLaws.{index-same, index-rises, rising-raise}
 use Rattle.cg_disk_records.specs.RunLaws.{run_on-append}
 use Rattle.cg_disk_records.specs.RunMarkLaws.{run-head, run-rest, names-new}
-use Rattle.cg_agree_lemmas.specs.BookGrows.{same-self}
 use Rattle.cg_agree_lemmas.specs.RepliesPlaced.{IsIn, times}
 
 -- ---- how often
@@ -93,7 +92,7 @@ times-once cut (x ∷ ids) id rising run = elim (cases_Bool (same_id x id)) [
 
 pub in-times : (id : ActionId) (ids : List ActionId) → IsIn ids id → 1 ≤ times id ids
 in-times id [] there = absurd there
-in-times id (x ∷ ids) (inl here) = (let now = times-here id x ids (subst (λ y. same_id y id ≡ true) (sym here) (same-self id)) in omega arith)
+in-times id (x ∷ ids) (inl here) = (let now = times-here id x ids (subst (λ y. same_id y id ≡ true) (sym here) (same_id-self id)) in omega arith)
 in-times id (x ∷ ids) (inr later) = (let rest = in-times id ids later in at (same_id x id) rest) where
   at : (b : Bool) → 1 ≤ times id ids → 1 ≤ (if b then suc (times id ids) else times id ids)
   at true le = omega arith
@@ -138,7 +137,7 @@ placed-within order before after list id run is front named = elim (cases_lt (le
 
 pub within-placed : (before after list : List ActionId) (id : ActionId) → Front list (before ++ id ∷ after) → length before < length list → has_name list id ≡ true
 within-placed [] after [] id front less = absurd (omega arith)
-within-placed [] after (x ∷ list) id front less = ap (λ b. b || has_name list id) (subst (λ y. same_id id y ≡ true) (sym front.0) (same-self id))
+within-placed [] after (x ∷ list) id front less = ap (λ b. b || has_name list id) (subst (λ y. same_id id y ≡ true) (sym front.0) (same_id-self id))
 within-placed (y ∷ before) after [] id front less = absurd (omega arith)
 within-placed (y ∷ before) after (x ∷ list) id front less = or-later (same_id id x) (has_name list id) (within-placed before after list id front.1 (omega arith)) where
   or-later : (a b : Bool) → b ≡ true → (a || b) ≡ true

@@ -5,13 +5,13 @@ use Rattle.std.specs.Option.{option_map_or}
 use Rattle.std.proofs.lemmas.Bool.{cases_lt}
 use Rattle.cg_base.specs.Lists.{at_place, above_up_to}
 use Rattle.cg_base.specs.Sets.{has}
+use Rattle.cg_base.specs.ListLaws.{at_place-past}
 use Rattle.cg_wire.specs.declared.message.Msg.{Msg}
 use Rattle.cg_group.specs.declared.phase.Phase.TheVariants.{Down, Regular}
 use Rattle.cg_group.specs.declared.reason.Reason.{Reason}
 use Rattle.cg_group.specs.declared.reason.Reason.TheVariants.{EarlierMissing}
 use Rattle.cg_group.specs.State.{Standing, GroupState, standing_of, phase_of, is_regular, regular_in, delivered_to, home, configuration, has_received}
 use Rattle.cg_group.specs.Refusals.{sender_at, is_missing, receive_refusal, not_up, not_regular, no_such_place, already_received, earlier_missing}
-use Rattle.cg_group.specs.PlaceLaws.{at_place-past}
 use Rattle.cg_model.specs.Chronicle.{Chronicle}
 use Rattle.cg_model.specs.Looks.{conf_of, members_in, ordered_in}
 use Rattle.cg_model.specs.FactsNet.{PhaseSound, IsPhase}

@@ -3,15 +3,15 @@ use Rattle.std.proofs.Common.{◌≡◌, ℕ, suc, ◌≤◌, arith, cond, List,
 use Rattle.std.specs.Prelude.{◌==◌}
 use Rattle.std.proofs.lemmas.Bool.{cases_Bool, cond-true, cond-false, cond_both, ne_eqb, lt-leb, lt-ltb, le-ltb}
 use Rattle.cg_base.specs.Sets.{with_member}
+use Rattle.cg_base.specs.FindLaws.{found_passes}
 use Rattle.cg_model.specs.World.{NodeState, Node, World, running, node_of, replica_of, with_node, set_life}
 use Rattle.cg_model.specs.Looks.{on_disk, disk_held}
 use Rattle.cg_model.specs.FactsLists.{IsRising}
 use Rattle.cg_agree_lemmas.specs.ChronicleFacts.{node_of-set}
-use Rattle.cg_agree_lemmas.specs.HandSays.{find-holds}
 use Rattle.cg_agree_lemmas.specs.Standings.{compared}
 
 pub node-id : (w : World) (p : ℕ) (s : Node) → node_of w p ≡ Some s → s.id ≡ p
-node-id w p s e = eqb-true s.id p (find-holds (λ (s : Node). s.id == p) w.nodes s e)
+node-id w p s e = eqb-true s.id p (found_passes (λ (s : Node). s.id == p) w.nodes s e)
 
 -- ---- one node is changed twice
 

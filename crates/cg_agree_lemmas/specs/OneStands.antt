@@ -3,6 +3,7 @@ use Rattle.std.proofs.Common.{◌≡◌, ℕ, Bool, true, false, cond, List, [],
 use Rattle.std.specs.Prelude.{◌==◌}
 use Rattle.std.specs.Option.{option_map_or}
 use Rattle.std.proofs.lemmas.Bool.{cond-true, cond_both}
+use Rattle.cg_base.specs.BoolLaws.{cond_twice}
 use Rattle.cg_wire.specs.declared.message.Msg.{Msg}
 use Rattle.cg_group.specs.declared.phase.Phase.{Phase}
 use Rattle.cg_group.specs.declared.phase.Phase.TheVariants.{Down, Alone, Regular, Transitional}
@@ -31,17 +32,13 @@ stands-refl g p = record {
   up = λ q. sym (put-same (is_up g) p (is_up g p) refl q);
 }
 
-twice : {X : Type 0} (b : Bool) (x y z : X) → cond b x (cond b y z) ≡ cond b x z
-twice true x y z = refl
-twice false x y z = refl
-
 -- one change behind another of the same replica
 pub stands-then : (f g h : GroupState Msg) (p : ℕ) (now later : Phase) (n m : ℕ) (is still : Bool) → Stands f g p now n is → Stands g h p later m still → Stands f h p later m still
 stands-then f g h p now later n m is still a b = record {
   conf = λ k. b.conf k ∙ a.conf k;
-  phase = λ q. b.phase q ∙ ap (cond (q == p) later) (a.phase q) ∙ twice (q == p) later now (phase_of f q);
-  delivered = λ q. b.delivered q ∙ ap (cond (q == p) m) (a.delivered q) ∙ twice (q == p) m n (delivered_to f q);
-  up = λ q. b.up q ∙ ap (cond (q == p) still) (a.up q) ∙ twice (q == p) still is (is_up f q);
+  phase = λ q. b.phase q ∙ ap (cond (q == p) later) (a.phase q) ∙ cond_twice (q == p) later now (phase_of f q);
+  delivered = λ q. b.delivered q ∙ ap (cond (q == p) m) (a.delivered q) ∙ cond_twice (q == p) m n (delivered_to f q);
+  up = λ q. b.up q ∙ ap (cond (q == p) still) (a.up q) ∙ cond_twice (q == p) still is (is_up f q);
 }
 
 -- the replica stands as given

@@ -3,6 +3,7 @@ use Rattle.std.proofs.Common.{◌≡◌, ℕ, ◌≢◌, Bool, true, false, cond
 use Rattle.std.specs.Prelude.{◌==◌, option_and_then}
 use Rattle.std.specs.Option.{option_map_or}
 use Rattle.std.proofs.lemmas.Bool.{cases_eq, cond-true, cond-false, ne_eqb}
+use Rattle.cg_base.specs.FindLaws.{found_passes}
 use Rattle.cg_action.specs.declared.action.Action.{Action}
 use Rattle.cg_client.specs.Replica.{Held, Replica}
 use Rattle.cg_client.specs.Turn.{Turn, begin}
@@ -14,7 +15,6 @@ use Rattle.cg_model.specs.Looks.{past_of, greens_of, stood_of, on_disk, disk_hel
 use Rattle.cg_model.specs.Small.{after_turn, turning, turning_as, newly_green, with_greens}
 use Rattle.cg_model.specs.FactsReplica.{IsCore}
 use Rattle.cg_agree_lemmas.specs.ChronicleFacts.{node_of-set, past_of-turn, greens_of-own, greens_of-other}
-use Rattle.cg_agree_lemmas.specs.HandSays.{find-holds}
 use Rattle.cg_agree_lemmas.specs.HeldMarks.{IsOneself}
 use Rattle.cg_agree_lemmas.specs.HeldTurns.{Grows, Keeps}
 use Rattle.cg_agree_lemmas.specs.GreenMembers.{drop-front}
@@ -124,7 +124,7 @@ turning-grows c p part pasts grows before = at (node_of c.world p) refl where
 
   at : (o : Option Node) → node_of c.world p ≡ o → AreOneself (option_map_or (λ s. turning_as c p part s.life) o c)
   at None e = before
-  at (Some s) e = life s s.life refl (eqb-true s.id p (find-holds (λ (s : Node). s.id == p) c.world.nodes s e)) e
+  at (Some s) e = life s s.life refl (eqb-true s.id p (found_passes (λ (s : Node). s.id == p) c.world.nodes s e)) e
 
 -- a part that keeps one replica's facts at any time
 pub turning-kept : (c : Chronicle) (p : ℕ) (part : Turn → Turn) → HavePasts c → Keeps part → AreOneself c → AreOneself (turning c p part)

@@ -18,6 +18,7 @@ use Rattle.cg_client.specs.Replica.{Held, Replica}
 use Rattle.cg_client.specs.Turn.{Turn}
 use Rattle.cg_base.specs.Lists.{Each}
 use Rattle.cg_base.specs.EachLaws.{Each-append, Each-filter}
+use Rattle.cg_base.specs.FindLaws.{found_each}
 use Rattle.cg_group.specs.Events.{deliver, handed_in_split, merge, split}
 use Rattle.cg_group.specs.declared.delivery.Handed.{Handed}
 use Rattle.cg_disk_records.specs.Crash.{Crashes, EventEnd, FailOnce, Runs, StopWith, Strike, end_event, new_disk}
@@ -27,10 +28,6 @@ use Rattle.cg_client.specs.Joined.{piece_count}
 -- ---- lists
 
 module _ {X : Type 0} (P : X → Type 0) where
-  pub found-each : (t : X → Bool) (xs : List X) → Each P xs → IfSome (find t xs) P
-  found-each t [] each = tt
-  found-each t (x ∷ xs) each = cond_both (t x) (Some x) (find t xs) (λ o. IfSome o P) (λ y. each.0) (λ n. found-each t xs each.1)
-
   -- where of each key there is one, what holds of the one that is found holds of each
   pub each-found : (key : X → ℕ) (xs : List X) → ((j : ℕ) → length (filter (λ x. key x == j) xs) ≤ 1) → ((j : ℕ) → IfSome (find (λ x. key x == j) xs) P) → Each P xs
   each-found key [] once each = tt
@@ -132,7 +129,7 @@ module _ (Holds : ℕ → Held → Type 0) where
       pub copy-of : (q joiner : ℕ) (r : Replica) → replica_of w q ≡ Some r → (let s = snapshot_for w q joiner r in Holds s.giver s.content)
       copy-of q joiner r e =
           let new : TransferState = record { joiner = joiner; giver = q; content = r.held; taken = 0 } in
-          at new (find (λ s. (s.joiner == joiner) && (s.giver == q)) w.snapshots) (found-each (λ s. Holds s.giver s.content) (λ s. (s.joiner == joiner) && (s.giver == q)) w.snapshots is) (holds q r e) where
+          at new (find (λ s. (s.joiner == joiner) && (s.giver == q)) w.snapshots) (found_each (λ s. Holds s.giver s.content) (λ s. (s.joiner == joiner) && (s.giver == q)) w.snapshots is) (holds q r e) where
             at : (new : TransferState) (o : Option TransferState) → IfSome o (λ s. Holds s.giver s.content) → Holds new.giver new.content → (let s = option_map_or (λ s. s) o new in Holds s.giver s.content)
             at new None found other = other
             at new (Some s) found other = found

@@ -1,6 +1,7 @@
 -- What a replica's step adds to the printed order: behind it the order is as it was, or the replica's greens, whichever is longer.
 use Rattle.std.proofs.Common.{◌⊎◌, ◌≡◌, ℕ, zero, suc, ◌+◌, ◌-◌, ◌≤◌, List, [], ◌∷◌, ◌++◌, length, drop, refl, sym, ap, ◌∙◌, subst, inl, inr, arith, append-nil, length-append}
 use Rattle.std.proofs.lemmas.Bool.{cases_lt}
+use Rattle.std.proofs.lemmas.List.{drop_all}
 use Rattle.cg_base.specs.declared.action_id.ActionId.{ActionId}
 use Rattle.cg_model.specs.Fronts.{Front}
 use Rattle.cg_model.specs.Show.{beyond}
@@ -10,12 +11,6 @@ drop-past : (xs ys : List ActionId) (n : ℕ) → length xs ≤ n → drop n (xs
 drop-past [] ys n le = ap (λ m. drop m ys) (let same : n ≡ n - 0 = omega arith in same)
 drop-past (x ∷ xs) ys zero le = absurd (omega arith)
 drop-past (x ∷ xs) ys (suc n) le = drop-past xs ys n (omega arith) ∙ ap (λ m. drop m ys) (let same : n - length xs ≡ suc n - suc (length xs) = omega arith in same)
-
-drop-whole : (n : ℕ) (ys : List ActionId) → length ys ≤ n → drop n ys ≡ []
-drop-whole zero [] le = refl
-drop-whole zero (y ∷ ys) le = absurd (omega arith)
-drop-whole (suc n) [] le = refl
-drop-whole (suc n) (y ∷ ys) le = drop-whole n ys (omega arith)
 
 -- the order behind the step: it is still a front of the line, and has the greens and what it had
 pub record IsExtended (line order greens new : List ActionId) : Type 0 where
@@ -42,7 +37,7 @@ order-extends line order shown green count is of_order of_greens low =
             on = subst (Front order) (sym new) front;
           }
       | inr far ↦
-          let nothing : beyond order green count ≡ [] = drop-whole (length order + length green - count) green (omega arith) in
+          let nothing : beyond order green count ≡ [] = drop_all (length order + length green - count) green (omega arith) in
           let new : order ++ beyond order green count ≡ order = ap (λ xs. order ++ xs) nothing ∙ append-nil order in
           record {
             either = inl new;

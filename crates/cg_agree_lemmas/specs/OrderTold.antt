@@ -7,6 +7,7 @@ use Rattle.cg_base.specs.declared.action_id.ActionId.{ActionId}
 use Rattle.cg_base.specs.declared.weighted.Weighted.{Weighted}
 use Rattle.cg_base.specs.Lists.{count_up}
 use Rattle.cg_base.specs.Weights.{ids}
+use Rattle.cg_base.specs.EachLaws.{count_up-add}
 use Rattle.cg_action.specs.declared.action.Kind.TheVariants.{Update, Join as JoinKind, Leave as LeaveKind}
 use Rattle.cg_wire.specs.declared.message.Msg.{Msg}
 use Rattle.cg_group.specs.declared.delivery.Handed.{Handed}
@@ -53,17 +54,6 @@ placed_count : (n : ℕ) (names : List ActionId) → length (placed_from n names
 placed_count n [] = refl
 placed_count n (id ∷ names) = ap suc (placed_count (suc n) names)
 
--- numbers, and the numbers behind them
-counted_on : (from few more : ℕ) → count_up from (few + more) ≡ count_up from few ++ count_up (from + few) more
-counted_on from zero more =
-    let none : 0 + more ≡ more = omega arith in
-    let there : from + 0 ≡ from = omega arith in
-    rw (none, there) refl
-counted_on from (suc few) more =
-    let one : suc few + more ≡ suc (few + more) = omega arith in
-    let there : from + suc few ≡ suc from + few = omega arith in
-    rw (one, there) (ap (λ rest. from ∷ rest) (counted_on (suc from) few more))
-
 -- new names come to the order, and their lines to the order lines
 told_names : (w : World) (order : List ActionId) (orders : List Placed) (new : List ActionId) → order ≡ w.order ++ map (λ o. o.id) orders →
     order ++ new ≡ w.order ++ map (λ o. o.id) (orders ++ placed_from (length order) new)
@@ -86,7 +76,7 @@ told_places w order orders new k =
     placed_places (length order) new ∙ (ap (λ n. count_up n (length new)) start ∙ ap (λ n. count_up (first + length orders) n) (sym (placed_count (length order) new))) in
     map-append (λ o. o.place) orders placed ∙ (ap (λ xs. xs ++ map (λ o. o.place) placed) k.places
     ∙ (ap (λ xs. count_up first (length orders) ++ xs) there
-    ∙ (sym (counted_on first (length orders) (length placed)) ∙ ap (λ n. count_up first n) (sym (length-append orders placed)))))
+    ∙ (sym (count_up-add first (length orders) (length placed)) ∙ ap (λ n. count_up first n) (sym (length-append orders placed)))))
 
 told_order : (w : World) (order : List ActionId) (orders : List Placed) (new : List ActionId) → TellsOrder w order orders →
     TellsOrder w (order ++ new) (orders ++ placed_from (length order) new)
@@ -232,4 +222,4 @@ places_told w (s ∷ steps) run =
     map-append (λ o. o.place) s.entry.orders (order_lines steps)
     ∙ (ap (λ xs. xs ++ map (λ o. o.place) (order_lines steps)) here.places
     ∙ (ap (λ xs. count_up first (length s.entry.orders) ++ xs) (places_told s.world steps run.3 ∙ ap (λ n. count_up n (length (order_lines steps))) start)
-    ∙ (sym (counted_on first (length s.entry.orders) (length (order_lines steps))) ∙ ap (λ n. count_up first n) (sym (length-append s.entry.orders (order_lines steps))))))
+    ∙ (sym (count_up-add first (length s.entry.orders) (length (order_lines steps))) ∙ ap (λ n. count_up first n) (sym (length-append s.entry.orders (order_lines steps))))))

@@ -9,6 +9,8 @@ use Rattle.cg_base.specs.declared.weighted.Weighted.{Weighted}
 use Rattle.cg_base.specs.Cuts.{index_in, creators_in}
 use Rattle.cg_base.specs.Ids.{has_name, same_id}
 use Rattle.cg_base.specs.Sets.{union, with_member}
+use Rattle.cg_base.specs.FindLaws.{found_passes}
+use Rattle.cg_base.specs.IdLaws.{same_id-is}
 use Rattle.cg_action.specs.declared.action.Action.{Action}
 use Rattle.cg_queue.specs.Queue.{QueueView, names_of, action_of}
 use Rattle.cg_records.specs.declared.yellow.Yellow.{Yellow}
@@ -23,10 +25,9 @@ use Rattle.cg_model.specs.FactsAttempts.{names_between, red_names}
 use Rattle.cg_model.specs.FactsLists.{IsRising}
 use Rattle.cg_disk_records.specs.Holds.{cut_behind}
 use Rattle.cg_model.specs.Talk.{known_up_to}
-use Rattle.cg_agree_lemmas.specs.HandSays.{find-holds}
 use Rattle.cg_agree_lemmas.specs.HeldMarks.{IsOneself, are_within, rising-green}
 use Rattle.cg_agree_lemmas.specs.KnownBounds.{unknown-creator}
-use Rattle.cg_agree_lemmas.specs.NamesAscend.{same-parts, names_of_creators, reds-between}
+use Rattle.cg_agree_lemmas.specs.NamesAscend.{names_of_creators, reds-between}
 use Rattle.cg_agree_lemmas.specs.PartHeld.{name-found}
 use Rattle.cg_agree_lemmas.specs.YellowMeets.{reds-named}
 
@@ -40,7 +41,7 @@ actions-names q (id ∷ ids) named =
     at (action_of q id) refl (name-found q.greens q.reds id parts.0) (actions-names q ids parts.1) where
       at : (o : Option Action) → action_of q id ≡ o → is_some o ≡ true → names_of (actions_named q ids) ≡ ids → names_of (option_to_list o ++ actions_named q ids) ≡ id ∷ ids
       at None e some rest = absurd (let clash : false ≡ true = some in cc)
-      at (Some a) e some rest = ap₂ (λ x xs. x ∷ xs) (same-parts a.id id (find-holds (λ (x : Action). same_id x.id id) (q.greens ++ q.reds) a e)) rest
+      at (Some a) e some rest = ap₂ (λ x xs. x ∷ xs) (same_id-is a.id id (found_passes (λ (x : Action). same_id x.id id) (q.greens ++ q.reds) a e)) rest
 
 -- a list that doesn't count is empty
 none-invalid : (heard : List Summary) → (common_yellow heard).valid ≡ false → (common_yellow heard).list ≡ []

@@ -4,6 +4,7 @@ use Rattle.std.specs.Prelude.{◌==◌, nat_lt, nat_le}
 use Rattle.std.proofs.lemmas.Bool.{cases_eq, and_parts, or_cases, or_left, or_right, ltb-true}
 use Rattle.cg_base.specs.Lists.{count_up, above_up_to}
 use Rattle.cg_base.specs.Sets.{has}
+use Rattle.cg_base.specs.MemberLaws.{has_count_up}
 use Rattle.cg_wire.specs.declared.message.Msg.{Msg}
 use Rattle.cg_group.specs.State.{Configuration, has_received}
 use Rattle.cg_model.specs.Fronts.{Front}
@@ -43,12 +44,6 @@ row-front low high (suc n) (place ∷ places) e each =
 
 -- ---- what a leaver has received
 
-pub counted : (from n k : ℕ) → from ≤ k → k < from + n → has (count_up from n) k ≡ true
-counted from zero k a b = absurd (omega arith)
-counted from (suc n) k a b = ⊎_elim
-    (λ e. or_left (from == k) (has (count_up (suc from) n) k) (eq-eqb from k e))
-    (λ ne. or_right (from == k) (has (count_up (suc from) n) k) (counted (suc from) n k (omega arith) (omega arith))) (cases_eq from k)
-
 pub implied : (a b : Bool) → implies a b ≡ true → a ≡ true → b ≡ true
 implied true b e is = e
 implied false b e is = absurd (let clash : false ≡ true = is in cc)
@@ -59,5 +54,5 @@ pub places-begin : (c : Configuration Msg) (p low last : ℕ) (places : List ℕ
 places-begin c p low last places ascend hold within each =
     row-front low (length c.ordered) (last - low) places ascend (λ k above below.
     implied (has_received c p k) (has places k)
-    (all-at (λ place. implies (has_received c p place) (has places place)) (above_up_to low (length c.ordered)) k hold (counted (suc low) (length c.ordered - low) k (omega arith) (omega arith)))
+    (all-at (λ place. implies (has_received c p place) (has places place)) (above_up_to low (length c.ordered)) k hold (has_count_up (suc low) (length c.ordered - low) k (omega arith) (omega arith)))
     (each k (omega arith) (omega arith)))

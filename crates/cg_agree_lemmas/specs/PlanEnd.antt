@@ -6,6 +6,7 @@ use Rattle.std.proofs.lemmas.Bool.{and_parts}
 use Rattle.cg_action.specs.declared.action.Action.{Action}
 use Rattle.cg_base.specs.Sets.{has}
 use Rattle.cg_base.specs.Choice.{Either}
+use Rattle.cg_base.specs.FindLaws.{found_passes}
 use Rattle.cg_knowledge.specs.declared.summary.Summary.{Summary}
 use Rattle.cg_knowledge.specs.Summaries.{senders, gone}
 use Rattle.cg_knowledge.specs.Verdict.{decides}
@@ -21,7 +22,6 @@ use Rattle.cg_model.specs.FactsExchange.{HoldsStill, IsInExchange, IsUnmoved, Is
 use Rattle.cg_model.specs.Facts.{Invariant}
 use Rattle.cg_agree_lemmas.specs.EndCovers.{OfEach}
 use Rattle.cg_agree_lemmas.specs.EndQuorum.{both-each}
-use Rattle.cg_agree_lemmas.specs.HandSays.{find-holds}
 use Rattle.cg_agree_lemmas.specs.Knowledge.{sender-told}
 use Rattle.cg_agree_lemmas.specs.TalkEarly.{all-member}
 use Rattle.cg_agree_lemmas.specs.TurnKinds.{EndsWith}
@@ -174,7 +174,7 @@ told-each c conf P each (s ∷ heard) told = (one (told_in c conf s.id) refl tol
 -- a member's own summary is what it told
 pub own-told : (c : Chronicle) (p conf : ℕ) (mine : Told) → told_in c conf p ≡ Some mine → (q : ℕ) (t : Told) → told_in c conf q ≡ Some t → t.summary.id ≡ p → t.summary ≡ mine.summary
 own-told c p conf mine found q t e id =
-    let named : t.summary.id ≡ q = eqb-true t.summary.id q (and_parts (t.summary.conf == conf) (t.summary.id == q) (find-holds (λ (t : Told). (t.summary.conf == conf) && (t.summary.id == q)) c.told t e)).1 in
+    let named : t.summary.id ≡ q = eqb-true t.summary.id q (and_parts (t.summary.conf == conf) (t.summary.id == q) (found_passes (λ (t : Told). (t.summary.conf == conf) && (t.summary.id == q)) c.told t e)).1 in
     let same : Some t ≡ Some mine = sym e ∙ ap (told_in c conf) (sym named ∙ id) ∙ found in
     ap (λ (o : Option Told). option_map_or (λ x. x.summary) o t.summary) same
 

@@ -7,7 +7,8 @@ use Rattle.std.proofs.lemmas.Bool.{cases_lt, cond-true, cond_both, or_cases, ltb
 use Rattle.cg_base.specs.Cuts.{index_in}
 use Rattle.cg_base.specs.Lists.{greatest, count_up, above_up_to, Each}
 use Rattle.cg_base.specs.Sets.{has}
-use Rattle.cg_base.specs.EachLaws.{Each-append}
+use Rattle.cg_base.specs.EachLaws.{Each-append, Each-take}
+use Rattle.cg_base.specs.ListLaws.{slice_get-behind, slice_get-front}
 use Rattle.cg_knowledge.specs.declared.summary.Summary.{Summary}
 use Rattle.cg_knowledge.specs.Summaries.{most_updated}
 use Rattle.cg_plan.specs.declared.parts.Item.{Item}
@@ -56,26 +57,6 @@ reach-each creator n (s ∷ list) each =
     let here = each.0 in
     let rest = reach-each creator n list each.1 in
     omega arith
-
--- what holds of each holds of each of a front
-pub each-take : {X : Type 0} (P : X → Type 0) (n : ℕ) (xs : List X) → Each P xs → Each P (take n xs)
-each-take P zero xs each = tt
-each-take P (suc n) [] each = tt
-each-take P (suc n) (x ∷ xs) each = (each.0, each-take P n xs each.1)
-
--- what stands in the first of two lists
-get-within : {X : Type 0} (xs ys : List X) (n : ℕ) → n < length xs → slice_get (xs ++ ys) n ≡ slice_get xs n
-get-within [] ys n lt = absurd (omega arith)
-get-within (x ∷ xs) ys zero lt = refl
-get-within (x ∷ xs) ys (suc n) lt = get-within xs ys n (omega arith)
-
--- what stands in the second of two lists
-get-beyond : {X : Type 0} (xs ys : List X) (n : ℕ) → length xs ≤ n → slice_get (xs ++ ys) n ≡ slice_get ys (n - length xs)
-get-beyond [] ys n le = let e : n ≡ n - 0 = omega arith in ap (slice_get ys) e
-get-beyond (x ∷ xs) ys zero le = absurd (omega arith)
-get-beyond (x ∷ xs) ys (suc n) le =
-    let e : n - length xs ≡ suc n - suc (length xs) = omega arith in
-    get-beyond xs ys n (omega arith) ∙ ap (slice_get ys) e
 
 -- ---- reds that go on
 
@@ -343,9 +324,9 @@ module _ (heard : List Summary) (best : Summary) (low : ℕ) (most : most_update
       ⊎_elim
       (λ (lt : n < length greens).
       let long = size in
-      subst (ItemAt heard n low best) (sym (green-get best.id (suc low) (best.green_count - low) n s (sym (get-within greens reds n lt) ∙ here))) (refl, omega arith))
+      subst (ItemAt heard n low best) (sym (green-get best.id (suc low) (best.green_count - low) n s (sym (slice_get-front greens reds n lt) ∙ here))) (refl, omega arith))
       (λ (le : length greens ≤ n).
-      at s.item le (fits-get heard (floor_of heard) reds (n - length greens) s (fits-reds heard (creators heard)) (sym (get-beyond greens reds n le) ∙ here)))
+      at s.item le (fits-get heard (floor_of heard) reds (n - length greens) s (fits-reds heard (creators heard)) (sym (slice_get-behind greens reds n le) ∙ here)))
       (cases_lt n (length greens)) where
         at : (item : Item) → length greens ≤ n → FitsItem heard (λ creator. max (floor_of heard creator) (reach_of creator (take (n - length greens) reds))) item → ItemAt heard n low best item
         at (Green place) le fits = absurd fits
@@ -361,17 +342,17 @@ module _ (heard : List Summary) (best : Summary) (low : ℕ) (most : most_update
   plan-sender n place s e kind =
       let here : slice_get (greens ++ reds) n ≡ Some s = ap (λ xs. slice_get xs n) (sym plan-split) ∙ e in
       ⊎_elim
-      (λ (lt : n < length greens). green-sender best.id (suc low) (best.green_count - low) n s (sym (get-within greens reds n lt) ∙ here))
+      (λ (lt : n < length greens). green-sender best.id (suc low) (best.green_count - low) n s (sym (slice_get-front greens reds n lt) ∙ here))
       (λ (le : length greens ≤ n).
       absurd (subst (FitsItem heard (λ creator. max (floor_of heard creator) (reach_of creator (take (n - length greens) reds)))) kind
-      (fits-get heard (floor_of heard) reds (n - length greens) s (fits-reds heard (creators heard)) (sym (get-beyond greens reds n le) ∙ here))))
+      (fits-get heard (floor_of heard) reds (n - length greens) s (fits-reds heard (creators heard)) (sym (slice_get-behind greens reds n le) ∙ here))))
       (cases_lt n (length greens))
 
   -- no item goes beyond what some member knows
   pub plan-within : (n creator : ℕ) → red_behind heard n creator ≤ most_of heard creator
   plan-within n creator =
       reach-each creator (most_of heard creator) (take n (items_of_plan (plan_of heard)))
-      (each-take (λ (s : PlanSent). red_index creator s.item ≤ most_of heard creator) n (items_of_plan (plan_of heard))
+      (Each-take (λ (s : PlanSent). red_index creator s.item ≤ most_of heard creator) n (items_of_plan (plan_of heard))
       (subst (Each (λ (s : PlanSent). red_index creator s.item ≤ most_of heard creator)) (sym plan-split)
       (Each-append (λ (s : PlanSent). red_index creator s.item ≤ most_of heard creator) greens reds
       (lift greens (green-none best.id creator (suc low) (best.green_count - low)))

@@ -5,6 +5,7 @@ use Rattle.std.specs.List.{prefix_len, cons_option}
 use Rattle.std.proofs.lemmas.Bool.{cases_Bool, cases_eq, cases_lt, cond-true, cond-false, or_cases, or_left, or_right}
 use Rattle.cg_base.specs.Lists.{count_up, above_up_to, greatest}
 use Rattle.cg_base.specs.Sets.{has}
+use Rattle.cg_base.specs.ListLaws.{fold_max-from}
 use Rattle.cg_wire.specs.declared.message.Msg.{Msg}
 use Rattle.cg_group.specs.State.{Sent}
 use Rattle.cg_model.specs.Fronts.{Front}
@@ -90,14 +91,10 @@ fold-max-mapped f (q ∷ set) a n le each =
 pub greatest-least : (f : ℕ → ℕ) (set : List ℕ) (n : ℕ) → ((p : ℕ) → has set p ≡ true → f p ≤ n) → greatest (map f set) ≤ n
 greatest-least f set n each = fold-max-mapped f set 0 n (omega arith) each
 
-fold-max-from : (ns : List ℕ) (a : ℕ) → a ≤ fold max a ns
-fold-max-from [] a = omega arith
-fold-max-from (k ∷ ns) a = let le = fold-max-from ns (max a k) in omega arith
-
 bounds-from : (f : ℕ → ℕ) (set : List ℕ) (a p : ℕ) → has set p ≡ true → f p ≤ fold max a (map f set)
 bounds-from f [] a p is = absurd (let clash : false ≡ true = is in cc)
 bounds-from f (q ∷ set) a p is = ⊎_elim
-    (λ here. let e : f q ≡ f p = ap f (eqb-true q p here) in let le = fold-max-from (map f set) (max a (f q)) in omega arith)
+    (λ here. let e : f q ≡ f p = ap f (eqb-true q p here) in let le = fold_max-from (max a (f q)) (map f set) in omega arith)
     (λ there. bounds-from f set (max a (f q)) p there)
     (or_cases (q == p) (has set p) is)
 

@@ -5,6 +5,7 @@ use Rattle.std.specs.Prelude.{◌==◌}
 use Rattle.std.specs.List.{list_any, list_all}
 use Rattle.std.proofs.lemmas.Bool.{cases_Bool, cond-true, cond_both, and_parts, and_from, and_cases, or_cases, or_left, or_right, not-true, not_from_false, ltb-true}
 use Rattle.cg_base.specs.Sets.{has}
+use Rattle.cg_base.specs.MemberLaws.{list_all_in}
 use Rattle.cg_action.specs.declared.action.Action.{Action}
 use Rattle.cg_group.specs.State.{has_received}
 use Rattle.cg_group.specs.Ready.{all_received}
@@ -23,11 +24,6 @@ all-at t [] p all is = absurd (let clash : false ≡ true = is in cc)
 all-at t (q ∷ set) p all is =
     let parts = and_parts (t q) (list_all t set) all in
     ⊎_elim (λ here. ap t (sym (eqb-true q p here)) ∙ parts.0) (λ there. all-at t set p parts.1 there) (or_cases (q == p) (has set p) is)
-
-pub all-from : (t : ℕ → Bool) (set : List ℕ) → ((p : ℕ) → has set p ≡ true → t p ≡ true) → list_all t set ≡ true
-all-from t [] each = refl
-all-from t (q ∷ set) each =
-    and_from (t q) (list_all t set) (each q (or_left (q == q) (has set q) (eq-eqb q q refl))) (all-from t set (λ p is. each p (or_right (q == p) (has set p) is)))
 
 pub any-more : (s t : ℕ → Bool) (set : List ℕ) → ((p : ℕ) → s p ≡ true → t p ≡ true) → list_any s set ≡ true → list_any t set ≡ true
 any-more s t [] each any = any
@@ -59,7 +55,7 @@ pub all-outside : (c : Chronicle) (conf : ℕ) → received_by_all c conf ≤ re
 unfolding all_received
 all-outside c conf =
     row-shrinks (is_received_outside c conf) (all_received (conf_of c conf)) (length (ordered_in c conf)) (length (ordered_in c conf))
-    (λ k above within all. all-from (λ p. is_regular_in c conf p || has_received (conf_of c conf) p k) (members_in c conf)
+    (λ k above within all. list_all_in (λ p. is_regular_in c conf p || has_received (conf_of c conf) p k) (members_in c conf)
     (λ p is. or_right (is_regular_in c conf p) (has_received (conf_of c conf) p k) (all-at (λ q. has_received (conf_of c conf) q k) (members_in c conf) p all is)))
     (λ lt. absurd (omega arith))
 
@@ -129,7 +125,7 @@ module _ (c d : Chronicle) (conf : ℕ) (on : GoesOnIn c d conf) where
 
   fewer-outside : (k : ℕ) → 0 < k → k ≤ length (ordered_in c conf) → is_received_outside d conf k ≡ true → is_received_outside c conf k ≡ true
   fewer-outside k above within all =
-      all-from (λ p. is_regular_in c conf p || has_received (conf_of c conf) p k) (members_in c conf) (λ p is. ⊎_elim
+      list_all_in (λ p. is_regular_in c conf p || has_received (conf_of c conf) p k) (members_in c conf) (λ p is. ⊎_elim
       (λ y. or_left (is_regular_in c conf p) (has_received (conf_of c conf) p k) y)
       (λ out. or_right (is_regular_in c conf p) (has_received (conf_of c conf) p k) (sym (on.receipts p k out within) ∙ ⊎_elim
       (λ regular. absurd (let clash : true ≡ false = sym regular ∙ on.stays p out in cc))

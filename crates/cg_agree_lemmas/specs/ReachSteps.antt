@@ -6,13 +6,14 @@ use Rattle.std.proofs.lemmas.Bool.{cases_Bool, cond-true, cond-false, cond_both,
 use Rattle.cg_base.specs.declared.weighted.Weighted.{Weighted}
 use Rattle.cg_base.specs.Text.{is_nil}
 use Rattle.cg_base.specs.Weights.{ids}
+use Rattle.cg_base.specs.ListLaws.{at_place-past, is_nil-none}
 use Rattle.cg_wire.specs.declared.message.Msg.{Msg}
 use Rattle.cg_group.specs.declared.phase.Phase.TheVariants.{Down, Alone, Regular, Transitional}
 use Rattle.cg_group.specs.State.{Configuration, Standing, GroupState, no_configuration, standing_of, phase_of, regular_in, is_regular, delivered_to, unordered_of, configuration, has_received, set_standing}
 use Rattle.cg_group.specs.Events.{come_up, go_down, become_regular, send, send_from, send_all, with_delivered}
 use Rattle.cg_group.specs.Refusals.{receive_refusal, not_up, not_regular, no_such_place, already_received, earlier_missing}
 use Rattle.cg_group.specs.LookupLaws.{phase_of-set, configuration-set_standing, standing_of-down}
-use Rattle.cg_group.specs.PlaceLaws.{at_place-append, at_place-past}
+use Rattle.cg_group.specs.PlaceLaws.{at_place-append}
 use Rattle.cg_client.specs.Turn.{Turn, begin}
 use Rattle.cg_client.specs.Requests.{settle}
 use Rattle.cg_disk_records.specs.Crash.{recovered}
@@ -229,10 +230,6 @@ module _ (conf : ℕ) where
 
   -- ---- each small step
 
-  nil-empty : {X : Type 0} (xs : List X) → is_nil xs ≡ true → 0 < length xs → ⊥
-  nil-empty [] e some = omega arith
-  nil-empty (x ∷ xs) e some = let clash : false ≡ true = e in cc
-
   -- the configuration has a number, where something is said in it
   pub said-there : (c : Chronicle) → 0 < length (ordered_in c conf) → conf ≤ length c.world.group.configurations
   unfolding configuration
@@ -245,7 +242,7 @@ module _ (conf : ℕ) where
   entered-other c p may some is =
       let new = newest_conf c.world.group in
       let parts = and_parts (is_member c new p && may_come c p && is_none (told_in c new p)) (is_nil (ordered_in c new)) may in
-      nil-empty (ordered_in c new) parts.1 (subst (λ k. 0 < length (ordered_in c k)) (sym is) some)
+      is_nil-none (ordered_in c new) parts.1 (subst (λ k. 0 < length (ordered_in c k)) (sym is) some)
 
   received-regular : (g : GroupState Msg) (p place : ℕ) → is_none (receive_refusal g p place) ≡ true → is_regular g p ≡ true
   unfolding receive_refusal

@@ -5,6 +5,7 @@ use Rattle.std.specs.Option.{option_map_or}
 use Rattle.std.proofs.lemmas.Bool.{cond_both, ne_eqb}
 use Rattle.cg_base.specs.Lists.{at_place}
 use Rattle.cg_base.specs.Sets.{has}
+use Rattle.cg_base.specs.FindLaws.{found_passes}
 use Rattle.cg_client.specs.Turn.{Turn, begin}
 use Rattle.cg_client.specs.Requests.{settle}
 use Rattle.cg_group.specs.PlaceLaws.{at_place-append}
@@ -20,7 +21,6 @@ use Rattle.cg_model.specs.FactsAttempts.{LevelsStand}
 use Rattle.cg_model.specs.FactsGreens.{InstalledCount, Spine}
 use Rattle.cg_model.specs.Small.{Small, Starts, Makes, Enters, Orders, Receives, Hands, Leaves, Asks, Settles, Commits, Crashes, Recovers, Copies, Joins, small_step, opened_by, is_installation, turning_as, turning, commit_as, crash_as, recover_as, copy_as, join_with, coming, take_newest, handed_next, take_next, leaving, take_parting, take_request}
 use Rattle.cg_model.specs.Smalls.{may_make}
-use Rattle.cg_agree_lemmas.specs.HandSays.{find-holds}
 use Rattle.cg_agree_lemmas.specs.FrontFacts.{Front-trans, Front-takes, Front-append, take-Front}
 use Rattle.cg_agree_lemmas.specs.ReachFacts.{AreCounted, reach-shrinks, frozen-kept, reached-bound, installed-reached, bound-line}
 use Rattle.cg_agree_lemmas.specs.ReachSteps.{goes_on-kept}
@@ -58,7 +58,7 @@ pub opened-attempt : (c : Chronicle) (level : ℕ) (o : Opened c level) → atte
 opened-attempt c level o = attempt-is c level o.conf o.attempt o.place o.found
 
 conf-found : (attempts : List Attempt) (c : Chronicle) (conf : ℕ) (a : Attempt) → attempt_of c conf ≡ Some a → a.conf ≡ conf
-conf-found attempts c conf a e = eqb-true a.conf conf (find-holds (λ (a : Attempt). a.conf == conf) c.attempts a e)
+conf-found attempts c conf a e = eqb-true a.conf conf (found_passes (λ (a : Attempt). a.conf == conf) c.attempts a e)
 
 -- the levels go on at their end
 pub record MoreLevels (olds news : List ℕ) : Type 0 where

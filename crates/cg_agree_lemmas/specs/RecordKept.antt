@@ -4,6 +4,7 @@ use Rattle.std.specs.Prelude.{◌==◌, option_and_then}
 use Rattle.std.specs.Option.{option_map_or}
 use Rattle.std.proofs.lemmas.Bool.{cond-true, and_parts, and_from}
 use Rattle.cg_base.specs.Sets.{has, is_within}
+use Rattle.cg_base.specs.MemberLaws.{list_all_in}
 use Rattle.cg_action.specs.declared.action.Action.{Action}
 use Rattle.cg_records.specs.declared.primary.Primary.{Primary}
 use Rattle.cg_records.specs.declared.vulnerable.Vulnerable.{Vulnerable}
@@ -32,7 +33,7 @@ use Rattle.cg_model.specs.Smalls.{may_make, is_between}
 use Rattle.cg_agree_lemmas.specs.EndCovers.{OfEach}
 use Rattle.cg_agree_lemmas.specs.EndCases.{has_bit}
 use Rattle.cg_agree_lemmas.specs.Knowledge.{known-of, each-bounded, bits-all, bits-witnessed, some-sender, Cleared, Kept, becomes}
-use Rattle.cg_agree_lemmas.specs.ReachFacts.{all-at, all-from}
+use Rattle.cg_agree_lemmas.specs.ReachFacts.{all-at}
 use Rattle.cg_agree_lemmas.specs.CoresKept.{IsClosed, cores-weaker, held-known}
 use Rattle.cg_agree_lemmas.specs.CoresSmall.{StepKeeps, ready-of, cores-kept}
 use Rattle.cg_agree_lemmas.specs.AttemptsGrow.{Grow, attempts-grow}
@@ -168,7 +169,7 @@ record-decided c d p conf heard old new i grow end id done is =
     within v (Some a) e r = (
       r.0,
       r.1,
-      all-from (has a.entered) (all_bits heard v.attempt) (λ q bit.
+      list_all_in (has a.entered) (all_bits heard v.attempt) (λ q bit.
           (let w = bits-witnessed (λ s. HasRecord c s.id s.prim.index s.vulnerable) heard v.attempt q bit each in entered v a e q w.who.vulnerable w.who.id w.who.prim.index w.bit w.holds)),
     )
 

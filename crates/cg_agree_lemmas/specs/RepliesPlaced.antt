@@ -3,9 +3,9 @@ use Rattle.std.proofs.Common.{◌⊎◌, ◌≡◌, ℕ, suc, ◌+◌, Bool, tru
 use Rattle.std.proofs.lemmas.Bool.{cases_Bool, cond-true, cond-false}
 use Rattle.cg_base.specs.declared.action_id.ActionId.{ActionId}
 use Rattle.cg_base.specs.Ids.{same_id}
+use Rattle.cg_base.specs.IdLaws.{same_id-self}
 use Rattle.cg_report.specs.declared.entry.Reply.{Reply}
 use Rattle.cg_model.specs.Show.{Answered, answered_from, with_answered}
-use Rattle.cg_agree_lemmas.specs.BookGrows.{same-self}
 
 -- an element of a list
 abbrev pub IsIn : {X : Type 0} → List X → X → Type 0
@@ -63,7 +63,7 @@ answered-all (id ∷ ids) n (r ∷ replies) is = elim (cases_Bool (same_id id r.
   either (inr later) = among-rest r replies ids later
 
   later : AreAmong (r ∷ replies) (id ∷ ids) → same_id id r.id ≡ false → AreAmong (r ∷ replies) ids
-  later (inl here) other = absurd (let self : same_id id r.id ≡ true = subst (λ x. same_id id x ≡ true) here.0 (same-self id) in let clash : true ≡ false = sym self ∙ other in cc)
+  later (inl here) other = absurd (let self : same_id id r.id ≡ true = subst (λ x. same_id id x ≡ true) here.0 (same_id-self id) in let clash : true ≡ false = sym self ∙ other in cc)
   later (inr is) other = is
 
 -- replies to those names that pass a test

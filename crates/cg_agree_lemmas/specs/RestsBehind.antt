@@ -3,6 +3,7 @@ use Rattle.std.proofs.Common.{◌≡◌, ℕ, zero, suc, ◌+◌, ◌≤◌, min
 use Rattle.std.specs.Prelude.{◌==◌}
 use Rattle.std.specs.Option.{option_map_or}
 use Rattle.std.proofs.lemmas.Bool.{cond_both}
+use Rattle.std.proofs.lemmas.Option.{same_Some}
 use Rattle.cg_base.specs.declared.weighted.Weighted.{Weighted}
 use Rattle.cg_base.specs.Lists.{at_place, above_up_to, Each}
 use Rattle.cg_base.specs.Weights.{ids}
@@ -185,9 +186,6 @@ module _ (start : List Weighted) (w : World) (rests : (q : ℕ) → RestsAt w q)
     at None = rests q
     at (Some r) = (let s = snapshot_for w p joiner r in joined-rests s (min (piece_count s.content) (s.taken + pieces)) q)
 
-  some-of : (x y : Replica) → Some x ≡ Some y → x ≡ y
-  some-of x y e = ap (λ (o : Option Replica). option_map_or (λ r. r) o x) e
-
   -- Behind an event every replica is at rest.
   pub event-rests : (e : Event) → MayStand w e → (q : ℕ) → RestsAt (world_step w e).world q
   unfolding world_step happens ended split merge deliver
@@ -207,7 +205,7 @@ module _ (start : List Weighted) (w : World) (rests : (q : ℕ) → RestsAt w q)
       no-record : (p : ℕ) (r : Replica) → replica_of w p ≡ Some r → is_record_of next r.held.vulnerable ≡ false
       no-record p r e = at (node_of w p) e (steps p) where
         life : (l : NodeState) → running l ≡ Some r → LifeSteps start next l → is_record_of next r.held.vulnerable ≡ false
-        life (Up x disk) is own = subst (λ (y : Replica). is_record_of next y.held.vulnerable ≡ false) (some-of x r is) own.2
+        life (Up x disk) is own = subst (λ (y : Replica). is_record_of next y.held.vulnerable ≡ false) (same_Some x r is) own.2
         life (Down disk green) is own = absurd (let clash : None ≡ Some r = is in cc)
 
         at : (o : Option Node) → option_and_then (λ s. running s.life) o ≡ Some r → NodeSteps start next o → is_record_of next r.held.vulnerable ≡ false

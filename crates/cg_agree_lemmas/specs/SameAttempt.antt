@@ -4,6 +4,7 @@ use Rattle.std.specs.Prelude.{◌==◌}
 use Rattle.std.specs.Option.{option_map_or}
 use Rattle.std.proofs.lemmas.Bool.{cond_both}
 use Rattle.cg_base.specs.Sets.{has}
+use Rattle.cg_base.specs.FindLaws.{found_before}
 use Rattle.cg_action.specs.declared.action.Action.{Action}
 use Rattle.cg_records.specs.declared.vulnerable.Vulnerable.{Vulnerable}
 use Rattle.cg_client.specs.Replica.{Held, Replica}
@@ -15,7 +16,7 @@ use Rattle.cg_model.specs.Attempts.{new_attempt, is_seen, with_attempt_of}
 use Rattle.cg_model.specs.Chronicle.{Attempt, Chronicle}
 use Rattle.cg_model.specs.Looks.{installation, snapshot_of, greens_of, stood_of, conf_at}
 use Rattle.cg_model.specs.Small.{Small, Starts, Makes, Enters, Orders, Receives, Hands, Leaves, Asks, Settles, Commits, Crashes, Recovers, Copies, Joins, small_step, changed_attempt, with_entrant, with_installer, with_leaver, entering, installing, attempts_behind, is_entry, is_installation, newly_green, turning_as, turning, commit_as, crash_as, recover_as, copy_as, join_with, coming, take_newest, handed_next, take_next, leaving, take_parting, take_request}
-use Rattle.cg_agree_lemmas.specs.Keyed.{found-changed, find-append}
+use Rattle.cg_agree_lemmas.specs.Keyed.{found-changed}
 
 pub record SameAttempt (a b : Attempt) : Type 0 where
   pub conf : b.conf ≡ a.conf
@@ -73,7 +74,7 @@ keeps-changed f keeps conf attempts = record {
   choice k a false e = record { now = a; found = e; same = same-refl a }
 
 keeps-appended : (attempts more : List Attempt) → KeepsAttempts attempts (attempts ++ more)
-keeps-appended attempts more = record { still = λ conf a e. record { now = a; found = find-append (λ (a : Attempt). a.conf == conf) attempts more a e; same = same-refl a } }
+keeps-appended attempts more = record { still = λ conf a e. record { now = a; found = found_before (λ (a : Attempt). a.conf == conf) attempts more a e; same = same-refl a } }
 
 same-leaver : (p count : ℕ) (a : Attempt) → SameAttempt a (with_leaver p count a)
 same-leaver p count a =

@@ -6,6 +6,7 @@ use Rattle.std.proofs.lemmas.Bool.{cases_Bool, cases_lt, cond-true, cond-false, 
 use Rattle.cg_base.specs.Lists.{at_place}
 use Rattle.cg_base.specs.Sets.{has, with_member}
 use Rattle.cg_base.specs.SetLaws.{has-with_member}
+use Rattle.cg_base.specs.ListLaws.{at_place-past}
 use Rattle.cg_wire.specs.declared.message.Msg.{Msg}
 use Rattle.cg_group.specs.declared.phase.Phase.{Phase}
 use Rattle.cg_group.specs.declared.phase.Phase.TheVariants.{Down, Alone, Regular, Transitional}
@@ -14,7 +15,6 @@ use Rattle.cg_group.specs.declared.reason.Reason.{Reason}
 use Rattle.cg_group.specs.Events.{receive, with_receipt}
 use Rattle.cg_group.specs.Refusals.{order_refusal, not_up, not_regular, nothing_to_order}
 use Rattle.cg_group.specs.LookupLaws.{standing_of-set_configuration, configuration-set, at-cond, at_place-changed, eqb_comm}
-use Rattle.cg_group.specs.PlaceLaws.{at_place-past}
 use Rattle.cg_client.specs.Replica.{Replica}
 use Rattle.cg_model.specs.World.{replica_of}
 use Rattle.cg_model.specs.Chronicle.{Chronicle}

@@ -4,6 +4,7 @@ use Rattle.std.specs.Prelude.{◌==◌}
 use Rattle.std.specs.Option.{option_map_or}
 use Rattle.cg_base.specs.Lists.{at_place, Each}
 use Rattle.cg_base.specs.Sets.{has}
+use Rattle.cg_base.specs.ListLaws.{at_place-past}
 use Rattle.cg_members.specs.Servers.{is_server}
 use Rattle.cg_wire.specs.declared.message.Msg.{Msg}
 use Rattle.cg_group.specs.declared.phase.Phase.{Phase}
@@ -11,7 +12,6 @@ use Rattle.cg_group.specs.declared.phase.Phase.TheVariants.{Down, Alone, Regular
 use Rattle.cg_group.specs.State.{Configuration, GroupState, no_configuration, configuration, is_up, is_regular, regular_in, phase_of, has_received, delivered_to}
 use Rattle.cg_group.specs.Ready.{ready_in}
 use Rattle.cg_group.specs.Refusals.{sender_at}
-use Rattle.cg_group.specs.PlaceLaws.{at_place-past}
 use Rattle.cg_client.specs.Replica.{State, RegPrim, TransPrim, ExchangeStates, ExchangeActions, Construct, No, Un, NonPrim, Left, Replica}
 use Rattle.cg_model.specs.World.{TransferState, World, replica_of, is_left_state}
 use Rattle.cg_model.specs.Chronicle.{Told, Chronicle}

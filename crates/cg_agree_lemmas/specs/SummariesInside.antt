@@ -3,6 +3,7 @@ use Rattle.std.proofs.Common.{◌≡◌, ℕ, ◌<◌, Bool, true, false, cond, 
 use Rattle.std.specs.Prelude.{◌==◌}
 use Rattle.std.specs.Option.{option_map_or}
 use Rattle.std.proofs.lemmas.Bool.{cases_eq, cond-true, cond-false, ne_eqb}
+use Rattle.std.proofs.lemmas.Option.{same_Some}
 use Rattle.cg_base.specs.EachLaws.{Each-append}
 use Rattle.cg_base.specs.Lists.{at_place, Each}
 use Rattle.cg_wire.specs.declared.message.Msg.{Msg}
@@ -68,9 +69,6 @@ module _ (c : Chronicle) (i : Invariant c) (conf : ℕ) (some : 0 < conf) where
   abbrev pub Goal : Chronicle → Type 0
   Goal d = ((q : ℕ) → is_in d conf q ≡ true → is_in c conf q ≡ true) → (q : ℕ) (r : Replica) → replica_of d.world q ≡ Some r → is_in d conf q ≡ true → LivesOn c conf q r
 
-  some-of : (x y : Replica) → Some x ≡ Some y → x ≡ y
-  some-of x y e = ap (λ (o : Option Replica). option_map_or (λ r. r) o x) e
-
   pub lives-turning : (b : Chronicle) (p : ℕ) (part : Turn → Turn) → b.world.nodes ≡ c.world.nodes → ((r : Replica) (disk : Disk) → node_of c.world p ≡ Some (record { id = p; life = Up r disk }) → GoesOnKnowing r (part (begin r)).replica) → Goal (turning b p part)
   lives-turning b p part nodes on = at (node_of b.world p) refl where
     same : (q : ℕ) → node_of b.world q ≡ node_of c.world q
@@ -85,7 +83,7 @@ module _ (c : Chronicle) (i : Invariant c) (conf : ℕ) (some : 0 < conf) where
         let here = sym (same p) ∙ node in
         lives-one (after_turn b p r disk t) p (Up t.replica disk)
         (λ q. node_of-set b.world p (Up t.replica disk) q ∙ ap (cond (p == q) (Some (record { id = p; life = Up t.replica disk }))) (same q))
-        (λ x e. (r, ap (λ (o : Option Node). option_and_then (λ s. running s.life) o) here, subst (GoesOnKnowing r) (some-of t.replica x e) (on r disk here))) inside
+        (λ x e. (r, ap (λ (o : Option Node). option_and_then (λ s. running s.life) o) here, subst (GoesOnKnowing r) (same_Some t.replica x e) (on r disk here))) inside
 
     life : (s : Node) (l : NodeState) → s.life ≡ l → node_of b.world p ≡ Some s → Goal (turning_as b p part l)
     life s (Up r disk) is e = turn r disk (node-of b p s (Up r disk) is e)
@@ -136,7 +134,7 @@ module _ (c : Chronicle) (i : Invariant c) (conf : ℕ) (some : 0 < conf) where
       let new : NodeState = Up (whitened r) (record disk { content = stored_of (whiten r.held) }) in
       let node = node-of c p s (Up r disk) is e in
       lives-one (commit_as c p (Up r disk)) p new (λ q. node_of-set c.world p new q)
-      (λ x f. (r, ap (λ (o : Option Node). option_and_then (λ s. running s.life) o) node, subst (GoesOnKnowing r) (some-of (whitened r) x f) (whitened-knowing r))) inside
+      (λ x f. (r, ap (λ (o : Option Node). option_and_then (λ s. running s.life) o) node, subst (GoesOnKnowing r) (same_Some (whitened r) x f) (whitened-knowing r))) inside
 
   pub crash-goal : (p : ℕ) (l : NodeState) → Goal (crash_as c p l)
   crash-goal p (Down disk green) = goal-same

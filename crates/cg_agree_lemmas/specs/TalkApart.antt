@@ -4,6 +4,7 @@ use Rattle.std.specs.Prelude.{◌==◌}
 use Rattle.std.proofs.lemmas.Bool.{cases_Bool, cond-true, cond-false}
 use Rattle.std.proofs.lemmas.List.Elements.{filter_map-append}
 use Rattle.cg_base.specs.Sets.{has}
+use Rattle.cg_base.specs.EachLaws.{list_all_same}
 use Rattle.cg_knowledge.specs.Summaries.{remaining}
 use Rattle.cg_knowledge.specs.declared.summary.Summary.{Summary}
 use Rattle.cg_wire.specs.declared.message.Msg.{Msg}
@@ -19,7 +20,6 @@ use Rattle.cg_model.specs.Looks.{conf_of, told_in, is_regular_at, is_regular_in,
 use Rattle.cg_model.specs.Talk.{Talk, no_talk, talk_of, is_legal, is_ended, act_in, known_up_to, state_in}
 use Rattle.cg_model.specs.FactsTalk.{whole_talk, handed_talk, TalkLegal, SaysWhatIsDue, SentIffDue, HeardIsTold, AreTold, summaries_of, IsTransitional, IsStateIn, ModeFits, AreContents, Content, AreNumberedAt, ActsNumbered, TalkFacts}
 use Rattle.cg_agree_lemmas.specs.NumbersSame.{numbered-at, numbered-itself, contents-front, AreInRow, row-front}
-use Rattle.cg_agree_lemmas.specs.TalkKept.{list_all-same}
 
 -- one replica is in that phase, which is no regular one, and all others are as before
 pub record Apart (c d : Chronicle) (p : ℕ) (now : Phase) : Type 0 where
@@ -107,7 +107,7 @@ module _ (c d : Chronicle) (p : ℕ) (now : Phase) (apart : Apart c d p now) whe
   transitional-apart k q h (No at heard) is = (
     is.0,
     is.1,
-    list_all-same (λ x. has heard x || lacks_announcement d k q x) (λ x. has heard x || lacks_announcement c k q x)
+    list_all_same (λ x. has heard x || lacks_announcement d k q x) (λ x. has heard x || lacks_announcement c k q x)
         (λ x. ap (λ b. has heard x || b) (lacks-apart k q x)) (attempt_set h) ∙ is.2,
   )
   transitional-apart k q h Un is = is

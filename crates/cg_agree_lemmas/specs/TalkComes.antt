@@ -4,6 +4,7 @@ use Rattle.std.proofs.Common.{◌≡◌, ℕ, Bool, true, false, cond, not, ◌&
 use Rattle.std.specs.Prelude.{◌==◌}
 use Rattle.std.proofs.lemmas.Bool.{cases_Bool, cond-true, cond-false, false_from_ne_true, and_from, and_left, and_right}
 use Rattle.cg_base.specs.Sets.{has}
+use Rattle.cg_base.specs.EachLaws.{list_all_same}
 use Rattle.cg_knowledge.specs.Summaries.{senders, remaining}
 use Rattle.cg_knowledge.specs.declared.summary.Summary.{Summary}
 use Rattle.cg_knowledge.specs.Verdict.{decides}
@@ -24,7 +25,6 @@ use Rattle.cg_model.specs.Talk.{Talk, no_talk, talk_of, is_legal, is_full, is_en
 use Rattle.cg_model.specs.FactsTalk.{whole_talk, handed_talk, TalkLegal, SaysWhatIsDue, SentIffDue, HeardIsTold, AreTold, summaries_of, IsTransitional, IsStateIn, ModeFits, AreContents, Content, AreNumbered, AreNumberedAt, ActsNumbered, TalkFacts}
 use Rattle.cg_agree_lemmas.specs.NumbersSame.{numbered-at, numbered-itself, AreInRow}
 use Rattle.cg_agree_lemmas.specs.TalkEarly.{all-member}
-use Rattle.cg_agree_lemmas.specs.TalkKept.{list_all-same}
 
 -- one replica has come into a configuration and told this, and all others are as before
 pub record Comes (c d : Chronicle) (p conf : ℕ) (t : Told) (r : Replica) : Type 0 where
@@ -167,7 +167,7 @@ module _ (c d : Chronicle) (p conf : ℕ) (t : Told) (r : Replica) (comes : Come
   transitional-comes k q h (No at heard) is = (
     is.0,
     is.1,
-    list_all-same (λ x. has heard x || lacks_announcement d k q x) (λ x. has heard x || lacks_announcement c k q x)
+    list_all_same (λ x. has heard x || lacks_announcement d k q x) (λ x. has heard x || lacks_announcement c k q x)
         (λ x. ap (λ b. has heard x || b) (lacks-comes k q x)) (attempt_set h) ∙ is.2,
   )
   transitional-comes k q h Un is = is

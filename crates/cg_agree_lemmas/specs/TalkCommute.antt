@@ -5,6 +5,7 @@ use Rattle.std.proofs.lemmas.Bool.{and_parts, and_from, false_from_ne_true, not-
 use Rattle.std.proofs.lemmas.List.Sums.{fold-append}
 use Rattle.cg_base.specs.Sets.{has, with_member}
 use Rattle.cg_base.specs.SetLaws.{has-with_member}
+use Rattle.cg_base.specs.BoolLaws.{or_true}
 use Rattle.cg_action.specs.declared.action.Action.{Action}
 use Rattle.cg_knowledge.specs.declared.summary.Summary.{Summary}
 use Rattle.cg_knowledge.specs.Summaries.{senders, remaining}
@@ -86,10 +87,6 @@ module _ (set : List ℕ) (conf : ℕ) (t : Talk) (from : ℕ) where
 
 pub clash : {Z : Type 0} → (b : Bool) → b ≡ true → b ≡ false → Z
 clash b is isnt = absurd (let both : true ≡ false = sym is ∙ isnt in cc)
-
-or-true : (b : Bool) → (b || true) ≡ true
-or-true true = refl
-or-true false = refl
 
 -- an item is wanted of one member
 pub wanted-one : (o : Option PlanSent) (p q : ℕ) (i j : Item) → is_wanted o p i ≡ true → is_wanted o q j ≡ true → p ≡ q
@@ -220,7 +217,7 @@ module _ (set : List ℕ) (conf : ℕ) where
         let its = tells set conf t q x may' in
         let behind = hears_from t q (StateMsg x) in
         let lacks : has (senders behind.heard) p ≡ false = told-other t.heard x p (λ e. other (sym e ∙ its.id)) ∙ mine.first in
-        let told : has (senders behind.heard) q ≡ true = ap (λ set. has set q) (senders-more t.heard x) ∙ has-with_member (senders t.heard) x.id q ∙ rw (its.id, eq-eqb q q refl) (or-true (has (senders t.heard) q)) in
+        let told : has (senders behind.heard) q ≡ true = ap (λ set. has set q) (senders-more t.heard x) ∙ has-with_member (senders t.heard) x.id q ∙ rw (its.id, eq-eqb q q refl) (or_true (has (senders t.heard) q)) in
         let over : u ≡ [] = nothing behind q (λ n. none_told set conf behind q n (not_full set behind p mine.member lacks) told) u rest in
         let still : has (senders (t.heard ++ s ∷ [])) q ≡ false = told-other t.heard s q (λ e. other (sym mine.id ∙ e)) ∙ its.first in
         rw over (and_from (((has set q && (x.id == q)) && (x.conf == conf)) && not (has (senders (t.heard ++ s ∷ [])) q)) true
@@ -254,7 +251,7 @@ module _ (set : List ℕ) (conf : ℕ) where
         let its = announces set conf t q i k may' in
         let behind = hears_from t q (Cpc i k) in
         let lacks : has (with_member t.announced q) p ≡ false = has-with_member t.announced q p ∙ or_from (has t.announced p) (q == p) mine.first (ne_eqb q p (λ e. other (sym e))) in
-        let told : has (with_member t.announced q) q ≡ true = has-with_member t.announced q q ∙ rw (eq-eqb q q refl) (or-true (has t.announced q)) in
+        let told : has (with_member t.announced q) q ≡ true = has-with_member t.announced q q ∙ rw (eq-eqb q q refl) (or_true (has t.announced q)) in
         let on : GoesOn set behind p = record { full = mine.goes_on.full; through = mine.goes_on.through; remains = mine.goes_on.remains } in
         let over : u ≡ [] = nothing behind q (λ x. none_announced set conf behind p q x on mine.decided lacks told) u rest in
         let still : has (with_member t.announced p) q ≡ false = has-with_member t.announced p q ∙ or_from (has t.announced q) (p == q) its.first (ne_eqb p q other) in

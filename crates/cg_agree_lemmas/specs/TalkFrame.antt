@@ -3,6 +3,7 @@ use Rattle.std.proofs.Common.{◌≡◌, ℕ, false, not, ◌||◌, List, [], �
 use Rattle.std.specs.Prelude.{◌==◌}
 use Rattle.std.specs.List.{list_all}
 use Rattle.cg_base.specs.Sets.{has, is_within}
+use Rattle.cg_base.specs.EachLaws.{list_all_same}
 use Rattle.cg_knowledge.specs.declared.summary.Summary.{Summary}
 use Rattle.cg_group.specs.declared.phase.Phase.{Phase}
 use Rattle.cg_group.specs.declared.phase.Phase.TheVariants.{Down, Alone, Regular, Transitional}
@@ -16,7 +17,6 @@ use Rattle.cg_model.specs.Talk.{Talk, talk_of, state_in}
 use Rattle.cg_model.specs.Levels.{lacks_announcement, announced_at, announced_from}
 use Rattle.cg_model.specs.FactsTalk.{whole_talk, handed_talk, AreTold, summaries_of, IsTransitional, IsStateIn}
 use Rattle.cg_agree_lemmas.specs.HandsTalk.{SaidFacts}
-use Rattle.cg_agree_lemmas.specs.TalkKept.{list_all-same}
 
 -- one replica is another one in state, and in the members of the attempt that it names
 abbrev pub IsShownAs : Option Replica → Option Replica → Type 0
@@ -65,7 +65,7 @@ module _ (c d : Chronicle) (same : SameTalk c d) where
     is.0,
     ap (λ set. is_within set heard) e ∙ is.1,
     ap (list_all (λ q. has heard q || lacks_announcement d k x q)) e
-        ∙ list_all-same (λ q. has heard q || lacks_announcement d k x q) (λ q. has heard q || lacks_announcement c k x q) (λ q. ap (λ b. has heard q || b) (lacks-same k x q out)) (attempt_set h) ∙ is.2,
+        ∙ list_all_same (λ q. has heard q || lacks_announcement d k x q) (λ q. has heard q || lacks_announcement c k x q) (λ q. ap (λ b. has heard q || b) (lacks-same k x q out)) (attempt_set h) ∙ is.2,
   )
   transitional-same k x h i Un out e is = is
   transitional-same k x h i (NonPrim regular) out e is = is

@@ -10,6 +10,7 @@ use Rattle.cg_group.specs.declared.phase.Phase.TheVariants.{Regular, Transitiona
 use Rattle.cg_group.specs.State.{Configuration, phase_of, delivered_to, unordered_of, has_received}
 use Rattle.std.specs.List.{list_all}
 use Rattle.cg_base.specs.Sets.{has}
+use Rattle.cg_base.specs.EachLaws.{list_all_same}
 use Rattle.cg_client.specs.Replica.{Held, State, RegPrim, TransPrim, ExchangeStates, ExchangeActions, Construct, No, Un, NonPrim, Left, Replica}
 use Rattle.cg_states.specs.Construct.{attempt_set}
 use Rattle.cg_model.specs.Levels.{lacks_announcement, announced_from}
@@ -34,10 +35,6 @@ pub record FitsAt (c : Chronicle) (p conf n : ℕ) (sent : List Msg) (r : Replic
   pub legal : is_legal (members_in c conf) conf (whole_talk c conf) (map (sent_by p) (unordered_of c.world.group p ++ sent)) ≡ true
   pub says : SaysWhatIsDue (members_in c conf) conf p (said_in c conf p ++ sent) (talk_of (take n (ordered_in c conf))) (told_in c conf p)
   pub state : r.state ≡ state_in (members_in c conf) conf (talk_of (take n (ordered_in c conf))) p
-
-pub list_all-same : {X : Type 0} (f g : X → Bool) → ((x : X) → f x ≡ g x) → (xs : List X) → list_all f xs ≡ list_all g xs
-list_all-same f g same [] = refl
-list_all-same f g same (x ∷ xs) = ap₂ (λ a b. a && b) (same x) (list_all-same f g same xs)
 
 module _ (c d : Chronicle) (p conf n : ℕ) (sent : List Msg) (r : Replica) (turn : Turns c d p n sent r) (fits : FitsAt c p conf n sent r) where
   pub members-same : (k : ℕ) → members_in d k ≡ members_in c k
@@ -139,7 +136,7 @@ module _ (c d : Chronicle) (p conf n : ℕ) (sent : List Msg) (r : Replica) (tur
   transitional-same k q h (No at heard) is = (
     is.0,
     is.1,
-    list_all-same (λ x. has heard x || lacks_announcement d k q x) (λ x. has heard x || lacks_announcement c k q x)
+    list_all_same (λ x. has heard x || lacks_announcement d k q x) (λ x. has heard x || lacks_announcement c k q x)
         (λ x. ap (λ b. has heard x || b) (lacks-same k q x)) (attempt_set h) ∙ is.2,
   )
   transitional-same k q h Un is = is

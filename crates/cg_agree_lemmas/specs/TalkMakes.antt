@@ -4,13 +4,14 @@ use Rattle.std.specs.Prelude.{◌==◌}
 use Rattle.std.specs.Option.{option_map_or}
 use Rattle.std.proofs.lemmas.Bool.{false_from_ne_true}
 use Rattle.cg_base.specs.Sets.{has}
+use Rattle.cg_base.specs.ListLaws.{at_place-past}
+use Rattle.cg_base.specs.EachLaws.{list_all_same}
 use Rattle.cg_knowledge.specs.Summaries.{remaining}
 use Rattle.cg_knowledge.specs.declared.summary.Summary.{Summary}
 use Rattle.cg_wire.specs.declared.message.Msg.{Msg}
 use Rattle.cg_group.specs.declared.phase.Phase.{Phase}
 use Rattle.cg_group.specs.declared.phase.Phase.TheVariants.{Regular, Transitional, Alone, Down}
 use Rattle.cg_group.specs.State.{Standing, Configuration, no_configuration, configuration, standing_of, phase_of, delivered_to, unordered_of, has_received}
-use Rattle.cg_group.specs.PlaceLaws.{at_place-past}
 use Rattle.cg_client.specs.Replica.{Held, State, RegPrim, TransPrim, ExchangeStates, ExchangeActions, Construct, No, Un, NonPrim, Left, Replica}
 use Rattle.cg_states.specs.Construct.{attempt_set}
 use Rattle.cg_model.specs.Levels.{lacks_announcement, announced_from}
@@ -24,7 +25,6 @@ use Rattle.cg_model.specs.Small.{Makes, small_step, make_configuration, with_gro
 use Rattle.cg_agree_lemmas.specs.GroupSound.{made-is, same-where_member, member-of}
 use Rattle.cg_agree_lemmas.specs.NumbersSame.{numbered-at, numbered-itself, AreInRow}
 use Rattle.cg_agree_lemmas.specs.SmallTalk.{conf-there}
-use Rattle.cg_agree_lemmas.specs.TalkKept.{list_all-same}
 
 module _ (c : Chronicle) (set : List ℕ) (sound : PhaseSound c) where
   abbrev d : Chronicle
@@ -126,7 +126,7 @@ module _ (c : Chronicle) (set : List ℕ) (sound : PhaseSound c) where
   transitional-made k q h (No at heard) same is = (
     is.0,
     is.1,
-    list_all-same (λ x. has heard x || lacks_announcement d k q x) (λ x. has heard x || lacks_announcement c k q x)
+    list_all_same (λ x. has heard x || lacks_announcement d k q x) (λ x. has heard x || lacks_announcement c k q x)
         (λ x. ap (λ b. has heard x || b) (lacks-made k q x same)) (attempt_set h) ∙ is.2,
   )
   transitional-made k q h Un same is = is

@@ -6,6 +6,7 @@ use Rattle.std.proofs.lemmas.Bool.{cond-false, cond_both, or_parts, and_parts}
 use Rattle.cg_base.specs.declared.weighted.Weighted.{Weighted}
 use Rattle.cg_base.specs.Sets.{has}
 use Rattle.cg_base.specs.Weights.{ids}
+use Rattle.cg_base.specs.FindLaws.{found_passes}
 use Rattle.cg_action.specs.declared.action.Kind.TheVariants.{Update, Join as JoinKind, Leave as LeaveKind}
 use Rattle.cg_wire.specs.declared.message.Msg.{Msg}
 use Rattle.cg_group.specs.declared.phase.Phase.{Phase}
@@ -26,7 +27,6 @@ use Rattle.cg_model.specs.Looks.{on_disk, disk_held}
 use Rattle.cg_model.specs.PhaseLaws.{Group, where_is, sent-place, order-place, receive-place, gather-place, deliver-place, up-place, down-place, split-other, next_conf, merge-place}
 use Rattle.cg_model.specs.Touched.{touched}
 use Rattle.cg_agree_lemmas.specs.ChronicleFacts.{node_of-set}
-use Rattle.cg_agree_lemmas.specs.HandSays.{find-holds}
 use Rattle.cg_agree_lemmas.specs.HeldCommit.{recovered-id}
 use Rattle.cg_agree_lemmas.specs.DiskSwaps.{Swaps, downgrade-swaps, recover_under-cases}
 use Rattle.cg_client.specs.Joined.{piece_count}
@@ -40,7 +40,7 @@ snapshot-joiner w p joiner r = at (find (λ s. (s.joiner == joiner) && (s.giver 
   at : (o : Option TransferState) → find (λ s. (s.joiner == joiner) && (s.giver == p)) w.snapshots ≡ o → (option_map_or (λ s. s) o new).joiner ≡ joiner
   at None e = refl
   at (Some s) e =
-      eqb-true s.joiner joiner (and_parts (s.joiner == joiner) (s.giver == p) (find-holds (λ (s : TransferState). (s.joiner == joiner) && (s.giver == p)) w.snapshots s e)).0
+      eqb-true s.joiner joiner (and_parts (s.joiner == joiner) (s.giver == p) (found_passes (λ (s : TransferState). (s.joiner == joiner) && (s.giver == p)) w.snapshots s e)).0
 
 module _ (q : ℕ) where
   pub record Stays (w v : World) : Type 0 where

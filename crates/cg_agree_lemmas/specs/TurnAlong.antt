@@ -10,6 +10,7 @@ use Rattle.cg_wire.specs.declared.message.Msg.{Msg}
 use Rattle.cg_group.specs.declared.delivery.Delivery.{Delivery}
 use Rattle.cg_base.specs.Lists.{Each}
 use Rattle.cg_base.specs.EachLaws.{Each-append, Each-weaker}
+use Rattle.cg_base.specs.BoolLaws.{or_else}
 use Rattle.cg_group.specs.State.{Standing, GroupState, set_standing}
 use Rattle.cg_group.specs.Events.{send_all}
 use Rattle.cg_client.specs.Replica.{Replica}
@@ -164,10 +165,6 @@ same-up w p here r disk node =
       disk_in (Up x d) other = d
       disk_in (Down d green) other = other
 
-or-rest : (a b : Bool) → a ≡ false → (a || b) ≡ true → b ≡ true
-or-rest true b off e = absurd (let clash : true ≡ false = off in cc)
-or-rest false b off e = e
-
 -- ---- several turns in one event
 
 module _ (w : World) (g : GroupState Msg) (N : ℕ → Standing Msg) (named : (q : ℕ) → (N q).id ≡ q) (input : ℕ → List (Delivery Msg)) (block : ℕ → List Small) (own : (q : ℕ) → Each (IsPartOf q) (block q)) where
@@ -229,7 +226,7 @@ module _ (w : World) (g : GroupState Msg) (N : ℕ → Standing Msg) (named : (q
       let isof : (x : ℕ) → Each (IsOf x) (block x) = λ x. Each-weaker (IsPartOf x) (IsOf x) (part-of x) (block x) (own x) in
       subst (λ list. RunsThrough v list p (replica_step on.replica (Deliveries (input p)))) (sym steps) (elim (cases_eq p q) [
         | inr apart ↦
-            let later : has rest p ≡ true = or-rest (q == p) (has rest p) (ne_eqb q p (λ e. apart (sym e))) there in
+            let later : has rest p ≡ true = or_else (q == p) (has rest p) (ne_eqb q p (λ e. apart (sym e))) there in
             runs-later v (played_in v first) first (smalls_among w g N named input block rest) p (replica_step on.replica (Deliveries (input p))) refl
             (Each-weaker (IsOf q) (Keeps p) (λ s is. other-keeps p q s apart is) first (ending-of k (block q) k.ended (isof q)))
             (together-runs rest (suc q) rise.1 each.1 (played_in v first) (hand go q (Deliveries (input q))) next p later on)

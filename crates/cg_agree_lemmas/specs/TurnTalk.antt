@@ -3,6 +3,7 @@ use Rattle.std.proofs.Common.{◌≡◌, ℕ, zero, suc, arith, true, false, con
 use Rattle.std.specs.Prelude.{◌==◌}
 use Rattle.std.specs.Option.{option_map_or}
 use Rattle.std.proofs.lemmas.Bool.{cases_Bool, cond-true, cond-false, ne_eqb}
+use Rattle.cg_base.specs.FindLaws.{found_passes}
 use Rattle.cg_action.specs.declared.action.Kind.{Kind}
 use Rattle.cg_knowledge.specs.declared.summary.Summary.{Summary}
 use Rattle.cg_wire.specs.declared.message.Msg.{Msg}
@@ -25,7 +26,6 @@ use Rattle.cg_model.specs.FactsNet.{PhaseSound, IsPhase}
 use Rattle.cg_model.specs.FactsTalk.{IsTransitional, IsStateIn}
 use Rattle.cg_model.specs.FactsReplica.{IsModeData}
 use Rattle.cg_model.specs.Small.{Settles, Asks, small_step, commit_as, turning, turning_as, after_turn, take_request}
-use Rattle.cg_agree_lemmas.specs.HandSays.{find-holds}
 use Rattle.cg_agree_lemmas.specs.HandsTalk.{SaidFacts}
 use Rattle.cg_agree_lemmas.specs.CreatesTalk.{Adds, adds-create, adds-kept, creates-said}
 use Rattle.cg_agree_lemmas.specs.ChronicleFacts.{node_of-set}
@@ -132,7 +132,7 @@ turn-kept c p part sound mode said each = at (node_of c.world p) refl where
 
   at : (o : Option Node) → node_of c.world p ≡ o → SaidFacts (option_map_or (λ s. turning_as c p part s.life) o c)
   at None e = said
-  at (Some s) e = life s s.life refl (eqb-true s.id p (find-holds (λ (s : Node). s.id == p) c.world.nodes s e)) e
+  at (Some s) e = life s s.life refl (eqb-true s.id p (found_passes (λ (s : Node). s.id == p) c.world.nodes s e)) e
 
 pub settle-each : (r : Replica) → CreatesOrIsQuiet r (settle (begin r))
 settle-each r = ⊎_elim

@@ -7,6 +7,7 @@ use Rattle.cg_base.specs.declared.action_id.ActionId.{ActionId}
 use Rattle.cg_base.specs.Cuts.{index_in, raise}
 use Rattle.cg_base.specs.Ids.{same_id}
 use Rattle.cg_base.specs.IdLaws.{same_id-true, same_id-false}
+use Rattle.cg_base.specs.BoolLaws.{and_false}
 use Rattle.cg_action.specs.declared.action.Action.{Action}
 use Rattle.cg_queue.specs.Queue.{Marks, Gaps, green_count, marked_red, placed_red}
 use Rattle.cg_queue.specs.declared.mark.Mark.TheVariants.{Placed, Known}
@@ -44,10 +45,6 @@ and-yes : (b : Bool) → (b && true) ≡ b
 and-yes true = refl
 and-yes false = refl
 
-and-no : (b : Bool) → (b && false) ≡ false
-and-no true = refl
-and-no false = refl
-
 -- which names are above the cut that is raised to the next one
 raised-test : (cut : List ActionId) (id x : ActionId) → Rising 0 cut → id.index ≡ suc (index_in cut id.creator) →
     nat_lt (index_in (raise cut id) x.creator) x.index ≡ (nat_lt (index_in cut x.creator) x.index && not (same_id x id))
@@ -58,7 +55,7 @@ raised-test cut id x rising next = ⊎_elim
     ⊎_elim
     (λ (this : x.index ≡ id.index).
     le-ltb (index_in (raise cut id) x.creator) x.index (omega arith)
-    ∙ sym (ap (λ b. nat_lt (index_in cut x.creator) x.index && not b) (same_id-true x id (sym same) this) ∙ and-no (nat_lt (index_in cut x.creator) x.index)))
+    ∙ sym (ap (λ b. nat_lt (index_in cut x.creator) x.index && not b) (same_id-true x id (sym same) this) ∙ and_false (nat_lt (index_in cut x.creator) x.index)))
     (λ (other : x.index ≡ id.index → ⊥).
     beside (index_in cut x.creator) (index_in (raise cut id) x.creator) x.index id.index (omega arith) (omega arith) other
     ∙ sym (ap (λ b. nat_lt (index_in cut x.creator) x.index && not b) (same_id-false x id (inr other)) ∙ and-yes (nat_lt (index_in cut x.creator) x.index)))

@@ -2,18 +2,13 @@
 use Rattle.std.proofs.Common.{◌≡◌, ℕ, zero, suc, ◌+◌, ◌-◌, ◌<◌, List, [], ◌∷◌, ◌++◌, take, drop, length, slice_get, Some, None, Contains, refl, sym, ap, ◌∙◌, subst, arith}
 use Rattle.std.specs.Option.{option_map_or}
 use Rattle.std.proofs.lemmas.List.Elements.{Contains-append_right}
+use Rattle.std.proofs.lemmas.Option.{same_Some, none-some}
 use Rattle.cg_base.specs.declared.action_id.ActionId.{ActionId}
 use Rattle.cg_base.specs.Lists.{at_place}
 use Rattle.cg_compare.specs.Orders.{HasNoRepeats}
 use Rattle.cg_terms.specs.Linearizable.{AllDiffer}
 
 module _ {X : Type 0} where
-  none-some : (x : X) → None ≡ Some x → ⊥
-  none-some x e = cc
-
-  one : (x y : X) → Some x ≡ Some y → x ≡ y
-  one x y e = ap (λ o. option_map_or (λ z. z) o x) e
-
   in-front : (xs ys : List X) (k : ℕ) (x : X) → slice_get xs k ≡ Some x → slice_get (xs ++ ys) k ≡ Some x
   in-front [] ys k x e = absurd (none-some x e)
   in-front (y ∷ xs) ys zero x e = e
@@ -32,7 +27,7 @@ module _ {X : Type 0} where
 
   there : (xs : List X) (k : ℕ) (x : X) → slice_get xs k ≡ Some x → Contains xs x
   there [] k x e = absurd (none-some x e)
-  there (y ∷ xs) zero x e = (zero, (let less : 0 < suc (length xs) = omega arith in less), one y x e)
+  there (y ∷ xs) zero x e = (zero, (let less : 0 < suc (length xs) = omega arith in less), same_Some y x e)
   there (y ∷ xs) (suc k) x e = Contains-append_right (y ∷ []) xs x (there xs k x e)
 
   -- what stands behind the first places of a front
@@ -49,8 +44,8 @@ one-place : (ids : List ActionId) → AllDiffer ids → (k m : ℕ) (id : Action
     slice_get ids m ≡ Some id → k ≡ m
 one-place [] differ k m id first second = absurd (none-some id first)
 one-place (x ∷ ids) differ zero zero id first second = refl
-one-place (x ∷ ids) differ zero (suc m) id first second = absurd (differ.0 (subst (Contains ids) (sym (one x id first)) (there ids m id second)))
-one-place (x ∷ ids) differ (suc k) zero id first second = absurd (differ.0 (subst (Contains ids) (sym (one x id second)) (there ids k id first)))
+one-place (x ∷ ids) differ zero (suc m) id first second = absurd (differ.0 (subst (Contains ids) (sym (same_Some x id first)) (there ids m id second)))
+one-place (x ∷ ids) differ (suc k) zero id first second = absurd (differ.0 (subst (Contains ids) (sym (same_Some x id second)) (there ids k id first)))
 one-place (x ∷ ids) differ (suc k) (suc m) id first second = ap suc (one-place ids differ.1 k m id first second)
 
 pub no-repeats : (ids : List ActionId) → AllDiffer ids → HasNoRepeats ids

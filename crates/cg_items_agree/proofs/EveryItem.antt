@@ -1,6 +1,7 @@
 -- What the items of every run agree on that ask for the relaxed database.
 use Rattle.std.proofs.Common.{◌≡◌, ℕ, true, false, List, [], ◌∷◌, ◌++◌, Option, Some, None, is_none, is_some, refl, sym, ap, ◌∙◌, subst}
 use Rattle.std.specs.Option.{option_map_or}
+use Rattle.std.proofs.lemmas.Option.{none-some}
 use Rattle.cg_action.specs.declared.action.Action.{Action}
 use Rattle.cg_queue.specs.Queue.{names_of}
 use Rattle.cg_group.specs.declared.reason.Reason.{Reason}
@@ -44,9 +45,6 @@ use Rattle.cg_items_agree.proofs.RelaxedRun.{IsBeside, beside-run}
 use Rattle.cg_items_agree.proofs.SameCells.{same-cells}
 use Rattle.cg_items.specs.ItemLaws.{steps-append}
 use Rattle.cg_model.specs.RunLaws.{front-run}
-
-some-of : {X : Type 0} (x : X) → None ≡ Some x → ⊥
-some-of x e = cc
 
 module _ (stand : AlwaysStands) (tell : EveryRunTells) (book : AlwaysMadeInBook) (order : OrderDoesNotMatter) where
   -- ---- behind the steps of a run
@@ -180,7 +178,7 @@ module _ (stand : AlwaysStands) (tell : EveryRunTells) (book : AlwaysMadeInBook)
 
     never : (earlier : List Item) (i : Item) (e : RelaxedEvent) → ItemAfter items earlier i →
         relaxed_event_of i ≡ Some e → ⊥
-    never earlier i e after is = some-of e (sym (nothing-asked earlier i after) ∙ is)
+    never earlier i e after is = none-some e (sym (nothing-asked earlier i after) ∙ is)
 
     others-of : (refused : Option Refused) →
         ((e : RelaxedEvent) (reason : Reason) → refused ≡ Some (OfFurther (further.Relaxed e) reason) → further_refusal (world_behind items) (kept_behind no_world c items) (further.Relaxed e) ≡ Some reason) →
@@ -192,7 +190,7 @@ module _ (stand : AlwaysStands) (tell : EveryRunTells) (book : AlwaysMadeInBook)
           ∙ sym (ap (relaxed_due (steps_of earlier)) (nothing-asked earlier i after));
       same = λ earlier between i j p q key after also one two same. absurd (never earlier i (One p key) after one);
       admitted = λ earlier i e after is. absurd (never earlier i e after is);
-      reason = λ e reason is. absurd (some-of reason (sym (others-refuse (world_behind items) (kept_behind no_world c items) e (kept-other items)) ∙ told e reason is));
+      reason = λ e reason is. absurd (none-some reason (sym (others-refuse (world_behind items) (kept_behind no_world c items) e (kept-other items)) ∙ told e reason is));
     }
 
   pub relaxed-agree : RelaxedOfEveryRunAgree

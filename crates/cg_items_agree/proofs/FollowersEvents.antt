@@ -4,6 +4,7 @@ use Rattle.std.specs.Prelude.{◌==◌}
 use Rattle.std.specs.Option.{option_map_or, option_eq}
 use Rattle.std.proofs.lemmas.Bool.{cases_Bool, cond_both}
 use Rattle.cg_base.specs.Lists.{first_some}
+use Rattle.cg_base.specs.OptionLaws.{first_none}
 use Rattle.cg_action.specs.declared.query.Query.{Query}
 use Rattle.cg_action.specs.declared.answer.Answer.{Answer}
 use Rattle.cg_group.specs.declared.reason.Reason.{Reason}
@@ -36,11 +37,6 @@ use Rattle.cg_items_agree.proofs.LifeTold.{come_due, feed_due, feed_left, anew, 
 use Rattle.cg_group.specs.RefusalLaws.{refuse_none}
 
 -- ---- tests
-
-none-first : (o : Option Reason) (rest : List (Option Reason)) → first_some (o ∷ rest) ≡ None →
-    (o ≡ None) × (first_some rest ≡ None)
-none-first None rest e = (refl, e)
-none-first (Some r) rest e = absurd (let clash : Some r ≡ None = e in cc)
 
 -- the first reason, where the rest is the same once the first test gives none
 pub same-first : (o : Option Reason) (xs ys : List (Option Reason)) → (o ≡ None → first_some xs ≡ first_some ys) →
@@ -206,8 +202,8 @@ module _ (earlier : List Item) (fs : List Follower) (stands : StandsSo (world_be
   make-acts : (f p : ℕ) → first_some (takes_part w p ∷ would_go_back w fs f p ∷ []) ≡ None →
       Acts (Make f p) (option_map_or (λ r. becomes fs f (made_of r)) (replica_of w p) (stays fs))
   make-acts f p admitted =
-      let first = none-first (takes_part w p) (would_go_back w fs f p ∷ []) admitted in
-      let second = none-first (would_go_back w fs f p) [] first.1 in
+      let first = first_none (takes_part w p) (would_go_back w fs f p ∷ []) admitted in
+      let second = first_none (would_go_back w fs f p) [] first.1 in
       let there = stands.there p first.0 in
       let r : Replica = there.replica in
       let has : HasGreens (steps_of earlier) p r = there.greens in
@@ -231,11 +227,11 @@ module _ (earlier : List Item) (fs : List Follower) (stands : StandsSo (world_be
       Acts (Feed p f count) (option_map_or (λ r. changes_to fs f (feeding r.held.queue count)) (replica_of w p)
       (stays fs))
   feed-acts p f count admitted =
-      let first = none-first (takes_part w p) (unknown_follower fs f ∷ follower_down fs f ∷ discarded w fs f p ∷ [])
+      let first = first_none (takes_part w p) (unknown_follower fs f ∷ follower_down fs f ∷ discarded w fs f p ∷ [])
       admitted in
-      let second = none-first (unknown_follower fs f) (follower_down fs f ∷ discarded w fs f p ∷ []) first.1 in
-      let third = none-first (follower_down fs f) (discarded w fs f p ∷ []) second.1 in
-      let fourth = none-first (discarded w fs f p) [] third.1 in
+      let second = first_none (unknown_follower fs f) (follower_down fs f ∷ discarded w fs f p ∷ []) first.1 in
+      let third = first_none (follower_down fs f) (discarded w fs f p ∷ []) second.1 in
+      let fourth = first_none (discarded w fs f p) [] third.1 in
       let there = stands.there p first.0 in
       let r : Replica = there.replica in
       let q : QueueView = r.held.queue in
@@ -278,8 +274,8 @@ module _ (earlier : List Item) (fs : List Follower) (stands : StandsSo (world_be
   stop-acts : (f call : ℕ) (fill : List ℕ) → first_some (unknown_follower fs f ∷ follower_down fs f ∷ []) ≡ None →
       Acts (Stop f call fill) (changes_to fs f (stopping call fill))
   stop-acts f call fill admitted =
-      let first = none-first (unknown_follower fs f) (follower_down fs f ∷ []) admitted in
-      let second = none-first (follower_down fs f) [] first.1 in
+      let first = first_none (unknown_follower fs f) (follower_down fs f ∷ []) admitted in
+      let second = first_none (follower_down fs f) [] first.1 in
       let up = stands-up f (up-there f (follower_at fs f) first.0 second.0) in
       let life : life_at fs f ≡ Some (Up up.now up.armed) = ap (option_map (λ (x : Follower). x.life)) up.is in
       subst (λ (o : Option Life). Acts (Stop f call fill)
@@ -302,8 +298,8 @@ module _ (earlier : List Item) (fs : List Follower) (stands : StandsSo (world_be
   recover-acts : (f : ℕ) → first_some (unknown_follower fs f ∷ follower_up fs f ∷ []) ≡ None →
       Acts (Recover f) (changes_to fs f (λ life. Up (taken_by life) None))
   recover-acts f admitted =
-      let first = none-first (unknown_follower fs f) (follower_up fs f ∷ []) admitted in
-      let second = none-first (follower_up fs f) [] first.1 in
+      let first = first_none (unknown_follower fs f) (follower_up fs f ∷ []) admitted in
+      let second = first_none (follower_up fs f) [] first.1 in
       let down = stands-down f (down-there f (follower_at fs f) first.0 second.0) in
       let life : life_at fs f ≡ Some (Fallen down.left) = ap (option_map (λ (x : Follower). x.life)) down.is in
       subst (λ (o : Option Life). Acts (Recover f) (option_map_or (λ life. becomes fs f (Up (taken_by life) None)) o
@@ -316,8 +312,8 @@ module _ (earlier : List Item) (fs : List Follower) (stands : StandsSo (world_be
   weak-acts : (f : ℕ) (query : Query) → first_some (unknown_follower fs f ∷ follower_down fs f ∷ []) ≡ None →
       Acts (Weak f query) (record { followers = fs; lines = answers fs f query })
   weak-acts f query admitted =
-      let first = none-first (unknown_follower fs f) (follower_down fs f ∷ []) admitted in
-      let second = none-first (follower_down fs f) [] first.1 in
+      let first = first_none (unknown_follower fs f) (follower_down fs f ∷ []) admitted in
+      let second = first_none (follower_down fs f) [] first.1 in
       let up = stands-up f (up-there f (follower_at fs f) first.0 second.0) in
       let life : life_at fs f ≡ Some (Up up.now up.armed) = ap (option_map (λ (x : Follower). x.life)) up.is in
       let told_lines : answers fs f query ≡ Answers f (answer up.now.db query) ∷ [] =

@@ -5,7 +5,7 @@ use Rattle.std.specs.Option.{option_map_or}
 use Rattle.std.proofs.lemmas.Bool.{and_parts, and_from, or_cases, ltb-true, leb-true, lt-ltb, le-leb}
 use Rattle.std.proofs.lemmas.List.{map-append}
 use Rattle.cg_base.specs.Lists.{Each}
-use Rattle.cg_base.specs.EachLaws.{Each-append, Each-list_all, Each-weaker}
+use Rattle.cg_base.specs.EachLaws.{Each-append, Each-list_all, Each-weaker, Each-take}
 use Rattle.cg_base.specs.declared.action_id.ActionId.{ActionId}
 use Rattle.cg_base.specs.Ids.{has_name, same_id}
 use Rattle.cg_base.specs.IdLaws.{same_id-is, same_id-self}
@@ -55,11 +55,6 @@ each-named (x ∷ ids) = (
   or-later : (a b : Bool) → b ≡ true → (a || b) ≡ true
   or-later true b e = refl
   or-later false b e = e
-
-take-each : (P : ActionId → Type 0) (n : ℕ) (ids : List ActionId) → Each P ids → Each P (take n ids)
-take-each P zero ids each = tt
-take-each P (suc n) [] each = tt
-take-each P (suc n) (x ∷ ids) each = (each.0, take-each P n ids each.1)
 
 names-count : (list : List Action) → length (names_of list) ≡ length list
 names-count [] = refl
@@ -120,7 +115,7 @@ module _ (stand : AlwaysStands) (tell : EveryRunTells) (steps : List Step) (run 
       let of_order : Each (λ id. nat_le id.index (index_in w.made id.creator) ≡ true) w.order =
       Each-list_all (λ (id : ActionId). nat_le id.index (index_in w.made id.creator)) w.order stands.rests.order_book.made in
       let first : Each (λ id. id.index ≤ index_in w.made id.creator) (take (green_count r.held.queue) w.order) =
-      take-each (λ id. id.index ≤ index_in w.made id.creator) (green_count r.held.queue) w.order
+      Each-take (λ id. id.index ≤ index_in w.made id.creator) (green_count r.held.queue) w.order
       (Each-weaker (λ id. nat_le id.index (index_in w.made id.creator) ≡ true) (λ id. id.index ≤ index_in w.made id.creator)
       (λ id is. leb-true id.index (index_in w.made id.creator) is) w.order of_order) in
       Each-append (λ id. id.index ≤ index_in w.made id.creator) (names_of greens) (names_of r.held.queue.reds)

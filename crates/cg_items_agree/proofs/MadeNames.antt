@@ -7,6 +7,7 @@ use Rattle.cg_base.specs.declared.action_id.ActionId.{ActionId}
 use Rattle.cg_base.specs.Ids.{same_id, has_name}
 use Rattle.cg_base.specs.Lists.{present, Each}
 use Rattle.cg_base.specs.IdLaws.{same_id-is, same_id-back}
+use Rattle.cg_base.specs.FindLaws.{found_passes}
 use Rattle.cg_action.specs.declared.action.Action.{Action}
 use Rattle.cg_queue.specs.Queue.{names_of}
 use Rattle.cg_report.specs.declared.entry.Made.{Made}
@@ -15,14 +16,13 @@ use Rattle.cg_model.specs.Run.{Step}
 use Rattle.cg_model.specs.Shown.{made_names, made_at, made_from, made_action, made_actions, order_of, ordered_actions}
 use Rattle.cg_model.specs.Agreement.{through, known_actions}
 use Rattle.cg_agree_lemmas.specs.BookGrows.{named_in}
-use Rattle.cg_agree_lemmas.specs.HandSays.{find-holds}
 use Rattle.cg_items_agree.proofs.SameCells.{AreOf}
 use Rattle.cg_model.specs.MadeLaws.{names-from}
 
 -- ---- each is the one of its name
 
 pub action-name : (steps : List Step) (id : ActionId) (a : Action) → made_action steps id ≡ Some a → a.id ≡ id
-action-name steps id a e = same_id-is a.id id (find-holds (λ (a : Action). same_id a.id id) (made_from [] steps) a e)
+action-name steps id a e = same_id-is a.id id (found_passes (λ (a : Action). same_id a.id id) (made_from [] steps) a e)
 
 pub made-own : (steps : List Step) (ids : List ActionId) → AreOf (made_action steps) (made_actions steps ids)
 made-own steps [] = tt

@@ -3,7 +3,7 @@ use Rattle.std.proofs.Common.{◌≡◌, ◌≢◌, ℕ, zero, suc, ◌+◌, ◌
 use Rattle.std.specs.Prelude.{◌==◌, nat_lt, nat_le}
 use Rattle.std.specs.List.{flat_map}
 use Rattle.std.proofs.lemmas.Bool.{cases_Bool, cases_eq, cases_lt, cond-true, cond-false, ne_eqb, and_parts, and_from, false_from_ne_true, ltb-true, leb-true, lt-ltb, le-leb}
-use Rattle.cg_base.specs.EachLaws.{Each-append, Each-weaker}
+use Rattle.cg_base.specs.EachLaws.{Each-append, Each-weaker, Each-take}
 use Rattle.cg_base.specs.declared.action_id.ActionId.{ActionId}
 use Rattle.cg_base.specs.Ids.{same_id, has_name}
 use Rattle.cg_base.specs.IdLaws.{same_id-true, same_id-false, same_id-self}
@@ -233,11 +233,6 @@ in-made made p (a ∷ xs) mine each = (
   in-made made p xs mine.1 each.1,
 )
 
-take-each : (P : Action → Type 0) (n : ℕ) (xs : List Action) → Each P xs → Each P (take n xs)
-take-each P zero xs each = tt
-take-each P (suc n) [] each = tt
-take-each P (suc n) (a ∷ xs) each = (each.0, take-each P n xs each.1)
-
 flat-each : (P : Action → Type 0) (f : ℕ → List Action) (ps : List ℕ) → ((p : ℕ) → Each P (f p)) →
     Each P (flat_map f ps)
 flat-each P f [] each = tt
@@ -247,7 +242,7 @@ pub rows-own : (rows : List (List Action)) (made : List Action) (w : World) → 
     (cut : List ActionId) → AreOf (action_in made) (named_in rows cut)
 rows-own rows made w are all cut =
     flat-each (λ a. action_in made a.id ≡ Some a) (λ p. take (index_in cut p) (row_at rows p)) every_replica (λ p.
-    take-each (λ a. action_in made a.id ≡ Some a) (index_in cut p) (row_at rows p)
+    Each-take (λ a. action_in made a.id ≡ Some a) (index_in cut p) (row_at rows p)
     (subst (AreOf (action_in made)) (sym (are p))
     (in-made made p (made_by p made)
     (Each-weaker (λ a. (a.id.creator ≡ p) × (1 ≤ a.id.index)) (λ a. a.id.creator ≡ p) (λ a is. is.0) (made_by p made) (next-each p 0 (made_by p made) (all.numbered p)))

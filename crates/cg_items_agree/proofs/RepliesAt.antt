@@ -13,6 +13,7 @@ use Rattle.cg_wire.specs.declared.message.Msg.{Msg}
 use Rattle.cg_group.specs.declared.delivery.Delivery.TheVariants.{Regular as RegularIn}
 use Rattle.cg_group.specs.declared.delivery.Handed.{Handed}
 use Rattle.cg_base.specs.EachLaws.{Each-has}
+use Rattle.cg_base.specs.ElementLaws.{contains-at}
 use Rattle.cg_group.specs.State.{GroupState, delivered_to, home}
 use Rattle.cg_group.specs.Events.{deliveries_at, handed_in_split, deliver, split, merge}
 use Rattle.cg_report.specs.declared.entry.Reply.{Reply}
@@ -50,10 +51,6 @@ use Rattle.cg_agree_lemmas.specs.GreensBehind.{greens-through}
 use Rattle.cg_agree_lemmas.specs.DiskSwaps.{recover_under-cases}
 
 -- ---- places
-
-contains-at : (before : List ActionId) (x : ActionId) (after : List ActionId) → Contains (before ++ x ∷ after) x
-contains-at [] x after = (zero, (let less : 0 < suc (length after) = omega arith in less), refl)
-contains-at (y ∷ before) x after = (let rest = contains-at before x after in (suc rest.0, (let less = rest.1 in omega arith), rest.2))
 
 -- a name has the place behind those before it, where none stands twice
 pub place-at : (before after : List ActionId) (id : ActionId) → AllDiffer (before ++ id ∷ after) → place_of (before ++ id ∷ after) id ≡ suc (length before)

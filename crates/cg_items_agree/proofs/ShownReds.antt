@@ -12,6 +12,7 @@ use Rattle.cg_base.specs.Ids.{has_name}
 use Rattle.cg_client.specs.Replica.{Held, Replica, created}
 use Rattle.cg_disk_records.specs.RunMarkLaws.{run-names}
 use Rattle.cg_base.specs.Lists.{Each}
+use Rattle.cg_base.specs.EachLaws.{Each-front}
 use Rattle.cg_model.specs.Attempts.{held_in}
 use Rattle.cg_model.specs.Chronicle.{Chronicle}
 use Rattle.cg_model.specs.FactsBooks.{IsActionShown, KeepsUnshown, MadeFits, NodeIsDown, NodeShown, OrderFits}
@@ -23,10 +24,6 @@ use Rattle.cg_queue.specs.Queue.{names_of}
 
 abbrev pub AreLow : World → List Action → Type 0
 AreLow w list = Each (λ (a : Action). a.id.index ≤ index_in w.made a.id.creator) list
-
-pub each-front : {X : Type 0} (P : X → Type 0) (xs ys : List X) → Each P (xs ++ ys) → Each P xs
-each-front P [] ys each = tt
-each-front P (x ∷ xs) ys each = (each.0, each-front P xs ys each.1)
 
 core-there : (o : Option Node) (r : Replica) → option_and_then (λ s. running s.life) o ≡ Some r →
     option_map (λ s. held_in s.life) o ≡ Some r.held
@@ -116,4 +113,4 @@ module _ (c : Chronicle) (w : World) (stands : StandsBeside c w) (fits : MadeFit
     reds-low =
         let here : replica_of c.world p ≡ Some r = sym (stands.same.running p) ∙ up in
         let booked = subst (λ (o : Option Replica). IfSome o (λ r. AreBooked c (r.held.queue.reds ++ r.held.own))) here (stands.facts.replica.made_once.in_memory p) in
-        each-low r.held.queue.reds (each-front (IsNamed c.book) r.held.queue.reds r.held.own (each-booked c (r.held.queue.reds ++ r.held.own) booked)) (others-low r.held.queue.reds reds-of)
+        each-low r.held.queue.reds (Each-front (IsNamed c.book) r.held.queue.reds r.held.own (each-booked c (r.held.queue.reds ++ r.held.own) booked)) (others-low r.held.queue.reds reds-of)

@@ -12,6 +12,7 @@ use Rattle.cg_group.specs.declared.reason.Reason.TheVariants.{NotTogether, NotOn
 use Rattle.cg_group.specs.State.{Standing, standing_of, is_up, is_regular, regular_in, phase_of}
 use Rattle.cg_group.specs.Refusals.{refuse, empty_set, left_together, any_of, not_up, not_regular, not_one_configuration, still_regular, is_together, not_together, split_refusal, merge_refusal}
 use Rattle.cg_base.specs.EachLaws.{Each-has, Each-weaker, Each-all, list_any_nowhere}
+use Rattle.cg_base.specs.FindLaws.{find_none}
 use Rattle.cg_client.specs.Replica.{State, RegPrim, TransPrim, ExchangeStates, ExchangeActions, Construct, No, Un, NonPrim, Left, Replica}
 use Rattle.cg_wire.specs.declared.message.Msg.{Msg}
 use Rattle.cg_schedule.specs.declared.event.Event.TheVariants.{Split, Merge}
@@ -43,10 +44,6 @@ any-none test (p ∷ set) each = none-then (test p) (map test set) each.0 (any-n
 
 none-of : (test : ℕ → Option Reason) (set : List ℕ) → ((p : ℕ) → has set p ≡ true → test p ≡ None) → any_of test set ≡ None
 none-of test set each = any-none test set (members (λ p. test p ≡ None) set each)
-
-find-none : {X : Type 0} (test : X → Bool) (xs : List X) → Each (λ x. test x ≡ false) xs → find test xs ≡ None
-find-none test [] each = refl
-find-none test (x ∷ xs) each = cond-false (test x) (Some x) (find test xs) each.0 ∙ find-none test xs each.1
 
 -- a set with a member isn't empty
 pub some-member : (set : List ℕ) (p : ℕ) → has set p ≡ true → empty_set set ≡ None
@@ -119,7 +116,7 @@ module _ (begun : ℕ → Bool) (at : ℕ → Option Phase) (w : World) (s : Sta
     one-conf [] same = refl
     one-conf (p ∷ rest) same =
         let test : ℕ → Bool = λ q. not (regular_in (phase_of w.group q) == regular_in (phase_of w.group p)) in
-        ap (option_map NotOneConfiguration) (find-none test rest (members (λ q. test q ≡ false) rest (λ q later.
+        ap (option_map NotOneConfiguration) (find_none test rest (members (λ q. test q ≡ false) rest (λ q later.
         ap not (eq-eqb (regular_in (phase_of w.group q)) (regular_in (phase_of w.group p)) (same q (or_right (p == q) (has rest q) later)
         ∙ sym (same p (ap (λ b. b || has rest p) (eq-eqb p p refl))))))))
 
@@ -162,7 +159,7 @@ module _ (begun : ℕ → Bool) (at : ℕ → Option Phase) (w : World) (s : Sta
     together left =
         let test : ℕ → Bool = λ q. is_together w.group set q && not (has set q) && not (has left q) in
         let all = map (λ (x : Standing Msg). x.id) w.group.replicas in
-        ap (option_map NotTogether) (find-none test all (Each-all (λ q. test q ≡ false) (λ q. and_out (is_together w.group set q) (has set q) (has left q) (apart q)) all))
+        ap (option_map NotTogether) (find_none test all (Each-all (λ q. test q ≡ false) (λ q. and_out (is_together w.group set q) (has set q) (has left q) (apart q)) all))
 
     pub may-merge : first_refusal w (Merge set) ≡ None
     unfolding first_refusal merge_refusal

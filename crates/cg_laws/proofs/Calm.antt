@@ -90,11 +90,6 @@ gone-none summaries each = at (most_updated summaries) (leading-none None summar
 
 -- ---- lists
 
-pub Each-drop : {X : Type 0} (P : X → Type 0) (n : ℕ) (xs : List X) → Each P xs → Each P (drop n xs)
-Each-drop P zero xs each = each
-Each-drop P (suc n) [] each = tt
-Each-drop P (suc n) (x ∷ xs) each = Each-drop P n xs each.1
-
 pub Each-map : {X Y : Type 0} (f : X → Y) (P : Y → Type 0) (xs : List X) → Each (λ x. P (f x)) xs → Each P (map f xs)
 Each-map f P [] each = tt
 Each-map f P (x ∷ xs) each = (each.0, Each-map f P xs each.1)

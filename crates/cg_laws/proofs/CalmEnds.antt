@@ -2,6 +2,7 @@
 use Rattle.std.proofs.Common.{nat_lt, ◌≡◌, ℕ, ◌-◌, false, List, ◌++◌, Option, Some, None, refl}
 use Rattle.std.proofs.lemmas.Bool.{cond_both}
 use Rattle.cg_base.specs.declared.weighted.Weighted.{Weighted}
+use Rattle.cg_base.specs.EachLaws.{Each-drop}
 use Rattle.cg_client.specs.Replica.{Held, NonPrim, fresh}
 use Rattle.cg_client.specs.Turn.{Turn, begin}
 use Rattle.cg_client.specs.Whitening.{white_at}
@@ -10,7 +11,7 @@ use Rattle.cg_disk_records.specs.Commit.{commits}
 use Rattle.cg_disk_records.specs.Checkpoint.{size_limit}
 use Rattle.cg_disk_records.specs.Crash.{Strike, Disk, new_disk, with_change, with_checkpoint, checkpointed, EventEnd, Runs, Crashes, commit_under, end_event, at_rest, recovered, disk_recovered}
 use Rattle.cg_model.specs.World.{NodeState, Up, Down}
-use Rattle.cg_laws.proofs.Calm.{Calm, CalmHeld, CalmState, CalmTurn, Each-drop}
+use Rattle.cg_laws.proofs.Calm.{Calm, CalmHeld, CalmState, CalmTurn}
 use Rattle.cg_laws.proofs.CalmMarks.{own_to_red-calm}
 
 -- the disk of the replica p, at which no fault is armed

@@ -7,10 +7,9 @@ use Rattle.std.proofs.lemmas.Bool.{cond_both, cond-true, cond-false, cases_Bool,
 use Rattle.cg_base.specs.Sets.{Ascends, has, with_member, without_member, common}
 use Rattle.cg_base.specs.SetLaws.{has-with_member, has-common, has-without_member, Ascends-with_member, Ascends-filter}
 use Rattle.cg_base.specs.Lists.{Each}
-use Rattle.cg_base.specs.EachLaws.{Each-append, Each-filter}
+use Rattle.cg_base.specs.EachLaws.{Each-append, Each-filter, Each-drop, Each-take}
 use Rattle.cg_schedule.specs.declared.event.Event.TheVariants.{Split, Merge}
 use Rattle.cg_gen.specs.Generated.{Drawing, draw, first_of, are_apart, placed, with_cell, cell_at, cell_of, Block, in_half, halved, parting}
-use Rattle.cg_laws.proofs.Calm.{Each-drop}
 
 -- ---- sets
 
@@ -89,11 +88,6 @@ module _ (all : List ℕ) (conf_of new_of : ℕ → ℕ) (set : List ℕ) (stays
   cells-stay (cell ∷ cells) apart each = (cell-stays cell apart.0 each.0, cells-stay cells apart.1 each.1)
 
 -- ---- a cell among the others
-
-Each-take : {X : Type 0} (P : X → Type 0) (n : ℕ) (xs : List X) → Each P xs → Each P (take n xs)
-Each-take P zero xs each = tt
-Each-take P (suc n) [] each = tt
-Each-take P (suc n) (x ∷ xs) each = (each.0, Each-take P n xs each.1)
 
 pub Each-insert : {X : Type 0} (P : X → Type 0) (i : ℕ) (x : X) (xs : List X) → P x → Each P xs → Each P (insert xs i x)
 Each-insert P i x xs new each = Each-append P (take i xs) (x ∷ drop i xs) (Each-take P i xs each) (new, Each-drop P i xs each)

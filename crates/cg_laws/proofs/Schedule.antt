@@ -5,6 +5,7 @@ use Rattle.std.proofs.lemmas.Bool.{eqb-false, cases_Bool, cases_lt, cond-true, c
 use Rattle.cg_base.specs.Lists.{count_up}
 use Rattle.cg_base.specs.Sets.{Ascends, has}
 use Rattle.cg_base.specs.Weights.{each_once}
+use Rattle.cg_base.specs.MemberLaws.{has_count_up}
 use Rattle.cg_group.specs.declared.phase.Phase.{Phase}
 use Rattle.cg_group.specs.declared.phase.Phase.TheVariants.{Alone, Regular}
 use Rattle.cg_group.specs.Refusals.{left_together}
@@ -23,21 +24,11 @@ pub Ascends-count_up : (n from : ℕ) → from + n ≤ 33 → Ascends from (coun
 Ascends-count_up zero from high = tt
 Ascends-count_up (suc n) from high = (omega arith, omega (arith, high), Ascends-count_up n (suc from) (omega (arith, high)))
 
-has-count_up : (n from k : ℕ) → from ≤ k → k < from + n → has (count_up from n) k ≡ true
-has-count_up zero from k above below = absurd (omega (arith, above, below))
-has-count_up (suc n) from k above below = ⊎_elim
-    (λ y. ap (λ b. b || has (count_up (suc from) n) k) y)
-    (λ m. or_right (from == k) (has (count_up (suc from) n) k) (has-count_up n (suc from) k (next from k above (eqb-false from k m)) (omega (arith, below))))
-    (cases_Bool (from == k))
-  where
-    next : (a b : ℕ) → a ≤ b → (a ≡ b → ⊥) → suc a ≤ b
-    next a b le other = ⊎_elim (λ (less : a < b). less) (λ (more : b ≤ a). absurd (other (omega (arith, le, more)))) (cases_lt a b)
-
 -- a replica that was drawn is one of all
 drawn-one : (replicas x : ℕ) → 1 ≤ replicas → has (count_up 1 replicas) (draw_from_one replicas x).0 ≡ true
 drawn-one replicas x some =
     let below = drawn-below replicas x some in
-    has-count_up replicas 1 (1 + (draw replicas x).0) (omega arith) (omega (arith, below))
+    has_count_up 1 replicas (1 + (draw replicas x).0) (omega arith) (omega (arith, below))
 
 -- ---- lines
 
@@ -74,7 +65,7 @@ module _ (replicas : ℕ) (some : 1 ≤ replicas) (high : replicas ≤ 32) where
 
   starts : (seed : ℕ) → GoesOn all no_run (at_the_start seed all).waiting (all ∷ [])
   starts seed =
-      let one : has all 1 ≡ true = has-count_up replicas 1 1 (omega arith) (omega (arith, some)) in
+      let one : has all 1 ≡ true = has_count_up 1 replicas 1 (omega arith) (omega (arith, some)) in
       let at : ℕ → Option Phase = all_at all (Some Alone) (λ q. None) in
       let run = play no_run (Start (each_once all)) in
       let fine : Fine (has all) at run = start-fine all 1 one in

@@ -5,6 +5,7 @@ use Rattle.std.proofs.lemmas.Bool.{cond_both, ne_eqb, le-ltb, or_cases}
 use Rattle.cg_base.specs.declared.weighted.Weighted.{Weighted}
 use Rattle.cg_base.specs.Sets.{Ascends, has}
 use Rattle.cg_base.specs.Weights.{ids, each_once}
+use Rattle.cg_base.specs.WeightLaws.{ids-each_once}
 use Rattle.cg_action.specs.declared.command.Cmd.{Cmd}
 use Rattle.cg_action.specs.declared.query.Query.{Query}
 use Rattle.cg_group.specs.declared.phase.Phase.{Phase}
@@ -198,10 +199,6 @@ started set (p ∷ rest) w begun at s =
     regrouped true b c = refl
     regrouped false b c = refl
 
-pub ids-once : (set : List ℕ) → ids (each_once set) ≡ set
-ids-once [] = refl
-ids-once (p ∷ set) = ap (λ xs. p ∷ xs) (ids-once set)
-
 none-stands : StandsIn (λ q. false) (λ q. None) no_world
 unfolding standing_of
 none-stands = record { hosted = λ p e. absurd (let clash : false ≡ true = e in cc); runs = λ p. refl; place = λ p. refl; lives = λ p. tt; calm = none-calm }
@@ -212,6 +209,6 @@ unfolding first_refusal happens
 start-fine all first some =
     let set = each_once all in
     step-fine (has all) (all_at all (Some Alone) (λ q. None)) no_run (Start set) refl
-    (some-member (ids set) first (ap (λ xs. has xs first) (ids-once all) ∙ some))
-    (subst (λ xs. StandsIn (has xs) (all_at xs (Some Alone) (λ q. None)) (fold (begin_replica set) no_world (ids set))) (ids-once all)
+    (some-member (ids set) first (ap (λ xs. has xs first) (ids-each_once all) ∙ some))
+    (subst (λ xs. StandsIn (has xs) (all_at xs (Some Alone) (λ q. None)) (fold (begin_replica set) no_world (ids set))) (ids-each_once all)
     (started set (ids set) no_world (λ q. false) (λ q. None) none-stands))

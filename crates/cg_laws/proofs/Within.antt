@@ -22,6 +22,8 @@ use Rattle.cg_action.specs.declared.query.Query.{Query}
 use Rattle.cg_action.specs.declared.query.Query.TheVariants.{Get}
 use Rattle.cg_action.specs.declared.value.Value.TheVariants.{Int}
 use Rattle.cg_base.specs.EachLaws.{Each-filter}
+use Rattle.cg_base.specs.WeightLaws.{ids-each_once}
+use Rattle.cg_base.specs.TextLaws.{ascii_then}
 use Rattle.cg_schedule.specs.declared.event.Event.{Event}
 use Rattle.cg_schedule.specs.declared.event.Event.TheVariants.{Split, Merge, Gather}
 use Rattle.cg_schedule.specs.declared.reader_state.ReaderState.{ReaderState}
@@ -30,7 +32,6 @@ use Rattle.cg_schedule.specs.Line.{first_state, state_after}
 use Rattle.cg_gen.specs.Generated.{Drawing, draw, draw_from_one, ◌>>=◌, done, first_of, are_apart, placed, with_cell, cell_at, cell_of, name, increment, set_and_get, weak_get, passes, Block, line_alone, parting, in_one, joining, parting_or_joining, regrouping, restarted, restarting, asking, block_of, block, GeneratorState, line_with, next_line, events_left, at_the_start, generated}
 use Rattle.cg_laws.proofs.Cells.{Each-insert, in_two, parted-cell}
 use Rattle.cg_laws.proofs.Blocks.{drawn-below}
-use Rattle.cg_laws.proofs.Steps.{ids-once}
 use Rattle.cg_laws.proofs.Schedule.{Ascends-count_up}
 
 -- ---- sets
@@ -74,12 +75,9 @@ of-set (cell ∷ cells) p each =
 
 -- ---- what is asked for
 
-ascii-then : (byte : ℕ) (bytes : List ℕ) → byte < 128 → IsUtf8 bytes → IsUtf8 (byte ∷ bytes)
-ascii-then byte bytes small utf8 = IsUtf8-append (byte ∷ []) bytes (subst IsUtf8 (encode_ascii byte small) (IsUtf8-encode byte (low_scalar byte (omega arith)))) utf8
-
 named : (letter n : ℕ) → 64 ≤ letter → letter < 127 → n < 8 → IsPrintable 1 64 (name letter n)
 named letter n low high small =
-    let utf8 = ascii-then letter ((48 + n) ∷ []) (omega (arith, high)) (ascii-then (48 + n) [] (omega (arith, small)) IsUtf8-nil) in
+    let utf8 = ascii_then letter ((48 + n) ∷ []) (omega (arith, high)) (ascii_then (48 + n) [] (omega (arith, small)) IsUtf8-nil) in
     let printed : is_printable (name letter n) ≡ true =
     rw (
       le-ltb letter 32 (omega (arith, low)),
@@ -251,7 +249,7 @@ module _ (replicas : ℕ) (some : 1 ≤ replicas) (high : replicas ≤ 32) where
       let all = count_up 1 replicas in
       let ascends : Ascends 1 all = Ascends-count_up replicas 1 (omega (arith, high)) in
       let is = as-set all ascends in
-      let weights : IsWeightSet (each_once all) = record { ascends = subst (Ascends 1) (sym (ids-once all)) ascends; weigh = each-weighs all } in
+      let weights : IsWeightSet (each_once all) = record { ascends = subst (Ascends 1) (sym (ids-each_once all)) ascends; weigh = each-weighs all } in
       left-are lines (at_the_start seed all) (is, tt) (weights, (is, tt))
 
 -- each event of a generated schedule is one that a line may be

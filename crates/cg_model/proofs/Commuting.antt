@@ -2,7 +2,7 @@
 use Rattle.std.proofs.Common.{◌≡◌, suc, ◌<◌, ◌≤◌, List, [], ◌∷◌, ◌++◌, find, cond, Bool, true, false, not, ◌&&◌, ◌||◌, Option, Some, None, refl, sym, ap, ap₂, ◌∙◌, subst, arith, inl, inr, nat_lt, nat_le, leb-true}
 use Rattle.std.specs.Prelude.{◌==◌, option_and_then, IfSome}
 use Rattle.std.proofs.lemmas.Bool.{cases_eq, cases_Bool, eq-eqb, and_parts, and_from}
-use Rattle.std.proofs.lemmas.Option.{none-some}
+use Rattle.std.proofs.lemmas.Option.{none-some, same_Some}
 use Rattle.cg_base.specs.declared.action_id.ActionId.{ActionId}
 use Rattle.cg_base.specs.Ids.{same_id, id_before, has_name}
 use Rattle.cg_base.specs.Cuts.{index_in, raise}
@@ -19,7 +19,7 @@ use Rattle.cg_disk_records.specs.CutRaiseLaws.{raise-commute, index-rises, raise
 use Rattle.cg_disk_records.specs.RunMarkLaws.{run-names, ascend-less, ascend-filter-from}
 use Rattle.cg_model.proofs.Rows.{find-red}
 use Rattle.cg_disk_records.specs.HeldLaws.{names-without}
-use Rattle.cg_disk_records.specs.KnownLaws.{some-same, none-all, greened-from, fits-next}
+use Rattle.cg_disk_records.specs.KnownLaws.{none-all, greened-from, fits-next}
 use Rattle.cg_disk_records.specs.HoldsMarkLaws.{known_by, own-same, rising-red, holds-known, holds-green}
 
 pub greened-to : (s : Stored) (id : ActionId) (b : Action) → action_of s.queue id ≡ Some b → b.id.index ≡ suc (index_in s.queue.green_cut b.id.creator) →
@@ -173,7 +173,7 @@ before-one g y x a id is fits more (Some z) e rest =
 
 pub known-before : (g : List ActionId) (y x : Stored) (a : Action) → Holds y → all_of green_by_name (Some y) g ≡ Some x → fits_known x a ≡ true → KnownBefore y x g a
 known-before [] y x a is green fits =
-    let same : y ≡ x = some-same y x green in
+    let same : y ≡ x = same_Some y x green in
     record { fits = ap (λ (s : Stored). fits_known s a) same ∙ fits; green = ap (λ (s : Stored). Some (known_by s a)) same }
 known-before (id ∷ g) y x a is green fits =
     before-one g y x a id is fits (λ z z_holds rest. known-before g z x a z_holds rest fits) (green_by_name y id) refl green

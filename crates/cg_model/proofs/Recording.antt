@@ -1,12 +1,13 @@
 -- The record of a commit leads from what stands on the disk to what the commit leaves.
 use Rattle.std.proofs.Common.{◌≡◌, suc, List, [], ◌∷◌, ◌++◌, fold, cond, Bool, true, false, not, ◌||◌, Option, Some, None, refl, sym, ap, ◌∙◌, subst, inl, inr, append-nil}
 use Rattle.std.specs.Prelude.{◌==◌, option_and_then}
-use Rattle.std.proofs.lemmas.Bool.{or_parts, cases_Bool, eq-eqb, and_from}
-use Rattle.std.proofs.lemmas.Option.{none-some}
+use Rattle.std.proofs.lemmas.Bool.{or_parts, cases_Bool, eq-eqb, and_from, not-false}
+use Rattle.std.proofs.lemmas.Option.{none-some, same_Some}
 use Rattle.std.proofs.lemmas.List.Sums.{fold-append}
 use Rattle.cg_base.specs.declared.action_id.ActionId.{ActionId}
 use Rattle.cg_base.specs.Text.{is_nil}
 use Rattle.cg_base.specs.IdLaws.{same_id-self}
+use Rattle.cg_base.specs.ListLaws.{is_nil-false}
 use Rattle.cg_action.specs.declared.action.Action.{Action}
 use Rattle.cg_action.specs.declared.action.Kind.{Kind}
 use Rattle.cg_queue.specs.Queue.{names_of}
@@ -28,7 +29,7 @@ use Rattle.cg_model.proofs.Steps.{IsKeptByMaking, of-settle, of-request_in, hold
 use Rattle.cg_disk_records.specs.HeldLaws.{after-here}
 use Rattle.cg_disk_records.specs.ValueLaws.{HaveOneValue, one-value}
 use Rattle.cg_disk_records.specs.HoldsMarkLaws.{known_by}
-use Rattle.cg_disk_records.specs.KnownLaws.{known_all, own-reddened, some-same, none-all}
+use Rattle.cg_disk_records.specs.KnownLaws.{known_all, own-reddened, none-all}
 
 -- a turn with the actions that it has made
 pub record Made (s : Stored) (unwritten : List Action) (t : Turn) : Type 0 where
@@ -149,7 +150,7 @@ recorded s unwritten t made =
 -- knowing changes no values
 known-values : (list : List Action) (x y : Stored) → all_of know (Some x) list ≡ Some y → HaveOneValue x y
 known-values [] x y e =
-    let same : x ≡ y = some-same x y e in
+    let same : x ≡ y = same_Some x y e in
     record { prim = ap (λ (z : Stored). z.prim) same; attempt_index = ap (λ (z : Stored). z.attempt_index) same; vulnerable = ap (λ (z : Stored). z.vulnerable) same; yellow = ap (λ (z : Stored). yellow_of z) same }
 known-values (a ∷ list) x y e = elim (cases_Bool (fits_known x a)) [
   | inl fits ↦
@@ -164,14 +165,6 @@ pub record IsQuiet (old : Held) (t : Turn) : Type 0 where
   pub made : t.made ≡ []
   pub values : HaveOneValue old t.replica.held
 
-nil-from : {A : Type 0} (xs : List A) → not (is_nil xs) ≡ false → xs ≡ []
-nil-from [] e = refl
-nil-from (x ∷ xs) e = absurd (let clash : true ≡ false = e in cc)
-
-not-false : (b : Bool) → not b ≡ false → b ≡ true
-not-false true e = refl
-not-false false e = absurd (let clash : true ≡ false = e in cc)
-
 quiet-from : (old : Held) (t : Turn) → commits old t ≡ false → IsQuiet old t
 unfolding commits
 quiet-from old t none =
@@ -182,8 +175,8 @@ quiet-from old t none =
     let second = or_parts (t.marked_own || g) m first.0 in
     let third = or_parts t.marked_own g second.0 in
     record {
-      green = nil-from t.green third.1;
-      made = nil-from t.made second.1;
+      green = is_nil-false t.green third.1;
+      made = is_nil-false t.made second.1;
       values = one-value old t.replica.held (not-false (same_values old t.replica.held) first.1);
     }
 
@@ -192,8 +185,8 @@ keeps : (s : Stored) (unwritten : List Action) (old : Held) (t : Turn) → IsAhe
 keeps s unwritten old t ahead made none =
     let h = t.replica.held in
     let quiet = quiet-from old t none in
-    let end : made.middle ≡ made.end = some-same made.middle made.end (sym (ap (all_of green_by_name (Some made.middle)) quiet.green) ∙ made.greens) in
-    let last : made.end ≡ made.last = some-same made.end made.last (sym (ap (all_of make (Some made.end)) quiet.made) ∙ made.makes) in
+    let end : made.middle ≡ made.end = same_Some made.middle made.end (sym (ap (all_of green_by_name (Some made.middle)) quiet.green) ∙ made.greens) in
+    let last : made.end ≡ made.last = same_Some made.end made.last (sym (ap (all_of make (Some made.end)) quiet.made) ∙ made.makes) in
     let alike : bare made.middle ≡ bare (stored_of h) = ap bare (end ∙ last) ∙ made.alike in
     let behind : all_of know (Some (stored_of old)) t.known ≡ Some made.middle =
     ap (λ o. all_of know o t.known) (sym ahead)

@@ -46,6 +46,7 @@ use Rattle.cg_model.specs.Recorded.{OfMessage, OfDelivery}
 use Rattle.cg_disk_records.specs.Following.{are_yellow}
 use Rattle.cg_disk_records.specs.Agreeing.{indexes_of}
 use Rattle.cg_base.specs.IdLaws.{same_id-false}
+use Rattle.cg_base.specs.EachLaws.{Each-append}
 use Rattle.cg_queue.specs.MarkLaws.{red-known, red-placed, red-gap}
 use Rattle.cg_disk_records.specs.CutRaiseLaws.{index-same}
 use Rattle.cg_disk_records.specs.RunMarkLaws.{run-names}
@@ -87,10 +88,6 @@ unfolding usable_names
 usable-yellow q ids = usable-from q [] ids refl
 
 -- ---- lists of fine actions
-
-each-both : (Fine : Action → Type 0) (xs ys : List Action) → Each Fine xs → Each Fine ys → Each Fine (xs ++ ys)
-each-both Fine [] ys fine more = more
-each-both Fine (x ∷ xs) ys fine more = (fine.0, each-both Fine xs ys fine.1 more)
 
 -- an action that isn't green is looked for among the reds
 pub find-red : (greens reds : List Action) (id : ActionId) (last : ℕ) → CountsTo last (indexes_of greens id.creator) → last < id.index →
@@ -136,7 +133,7 @@ each-named Fine h [] is red fine = tt
 each-named Fine h (id ∷ ids) is red fine =
     let parts = and_parts (has_name (names_of h.queue.reds) id) (are_red (names_of h.queue.reds) ids) red in
     let found = find-red h.queue.greens h.queue.reds id (index_in h.queue.green_cut id.creator) (is.greens id.creator) (red-above h id is parts.0) in
-    each-both Fine (option_to_list (action_of h.queue id)) (actions_named h.queue ids)
+    Each-append Fine (option_to_list (action_of h.queue id)) (actions_named h.queue ids)
     (subst (λ o. Each Fine (option_to_list o)) (sym found) (each-found Fine (λ a. same_id a.id id) h.queue.reds fine))
     (each-named Fine h ids is parts.1 fine)
 

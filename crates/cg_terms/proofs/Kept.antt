@@ -20,20 +20,12 @@ use Rattle.cg_terms.proofs.Places.{contains-map_back, split-at, differ-append}
 use Rattle.cg_model.specs.MadeLaws.{AreMade, actions-more}
 use Rattle.cg_terms.proofs.Counts.{position-within, count-within}
 use Rattle.cg_terms.proofs.Linear.{IsReplyIn, grounds-of, grounds-front, all-made}
-use Rattle.cg_base.specs.ElementLaws.{contains-none, contains-here, contains-later, contains-cases}
+use Rattle.cg_base.specs.ElementLaws.{contains-none, contains-here, contains-later, contains-cases, take-there}
 use Rattle.cg_model.specs.RunLaws.{through-append, order-append}
 
 -- ---- fronts of lists
 
 module _ {X : Type 0} where
-  take-there : (n : ℕ) (xs : List X) (x : X) → Contains (take n xs) x → Contains xs x
-  take-there zero xs x there = absurd (contains-none x there)
-  take-there (suc n) [] x there = absurd (contains-none x there)
-  take-there (suc n) (y ∷ xs) x there = elim (contains-cases y (take n xs) x there) [
-    | inl here ↦ subst (Contains (y ∷ xs)) here (contains-here y xs)
-    | inr later ↦ contains-later y xs x (take-there n xs x later)
-  ]
-
   take-more : (m n : ℕ) (xs ys : List X) (x : X) → m ≤ n → Contains (take m xs) x → Contains (take n (xs ++ ys)) x
   take-more zero n xs ys x less there = absurd (contains-none x there)
   take-more (suc m) n [] ys x less there = absurd (contains-none x there)

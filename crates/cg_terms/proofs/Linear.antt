@@ -15,10 +15,10 @@ use Rattle.cg_model.specs.Shown.{made_names, made_action, made_actions, order_of
 use Rattle.cg_model.specs.Agreement.{ComesAfter, through, CreatorOrder, FoldAnswers}
 use Rattle.cg_model.specs.Fronts.{Front}
 use Rattle.cg_terms.specs.Linearizable.{AllDiffer, StandsBefore, IsOverBefore, responses, Linearizes, Linearizable, history_of, StronglyLinearizable}
-use Rattle.cg_terms.proofs.Places.{contains-at, contains-map_back, split-at, front-append, differ-front}
+use Rattle.cg_terms.proofs.Places.{contains-map_back, split-at, front-append, differ-front}
 use Rattle.cg_model.specs.MadeLaws.{AreMade, made-found, actions-more, actions-append, actions-head, names-made, each-made}
 use Rattle.cg_terms.proofs.Numbered.{differ-numbered}
-use Rattle.cg_base.specs.ElementLaws.{contains-none, contains-here, contains-later, last-of}
+use Rattle.cg_base.specs.ElementLaws.{contains-none, contains-here, contains-later, last-of, contains-at}
 use Rattle.cg_model.specs.RunLaws.{through-append, order-append}
 
 -- ---- the sequential object

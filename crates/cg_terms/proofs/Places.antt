@@ -12,9 +12,6 @@ use Rattle.cg_terms.specs.Linearizable.{AllDiffer}
 use Rattle.cg_base.specs.ElementLaws.{contains-none, contains-here, contains-later, contains-cases, flat-append}
 
 module _ {X : Type 0} where
-  pub contains-at : (before : List X) (x : X) (after : List X) → Contains (before ++ x ∷ after) x
-  contains-at before x after = Contains-append_right before (x ∷ after) x (contains-here x after)
-
   pub record IsAt (xs : List X) (x : X) : Type 0 where
     pub before : List X
     pub after : List X

@@ -30,11 +30,11 @@ use Rattle.cg_model.specs.Agreement.{ComesAfter, through, is_recovery_of}
 use Rattle.cg_terms.specs.Linearizable.{AllDiffer, replied_in, StronglyLinearizable}
 use Rattle.cg_terms.specs.Guarantees.{shown_by, IsPrefixState, Durable, ExactlyOnce, PrefixReads, IsPrimary, NoSplitBrain}
 use Rattle.cg_terms.specs.Terms.{Guarantees}
-use Rattle.cg_terms.proofs.Places.{contains-at, split-at}
+use Rattle.cg_terms.proofs.Places.{split-at}
 use Rattle.cg_terms.proofs.Linear.{IsReplyIn, Grounds, strongly-linearizable}
 use Rattle.cg_terms.proofs.Kept.{position-grows, shown-grows, own-writes}
 use Rattle.cg_terms.proofs.Transcripts.{name, showing, up_with, at, servers, x_is, replica_with, one_applied, one_done, done, the_action, asks_one, finds_one, strong-is_linearizable}
-use Rattle.cg_base.specs.ElementLaws.{contains-none, contains-cases}
+use Rattle.cg_base.specs.ElementLaws.{contains-none, contains-cases, contains-at}
 
 -- ---- the transcript
 

@@ -5,7 +5,7 @@ use Rattle.std.proofs.lemmas.Bool.{cases_eq, cases_lt, cond-true, cond-false, ne
 use Rattle.std.proofs.lemmas.List.{length-append}
 use Rattle.std.proofs.lemmas.List.Elements.{filter-append}
 use Rattle.cg_base.specs.Lists.{Each}
-use Rattle.cg_base.specs.EachLaws.{Each-weaker, Each-append, Each-filter}
+use Rattle.cg_base.specs.EachLaws.{Each-weaker, Each-append, Each-filter, Each-get}
 use Rattle.cg_base.specs.declared.action_id.ActionId.{ActionId}
 use Rattle.cg_base.specs.Ids.{same_id}
 use Rattle.cg_base.specs.IdLaws.{same_id-true, same_id-false}
@@ -56,11 +56,6 @@ there-some xs k = elim (cases_lt k (length xs)) [
   | inl less ↦ there-is xs k less ∙ sym (le-leb (suc k) (length xs) (omega arith))
   | inr le ↦ there-none xs k le ∙ sym (lt-leb (suc k) (length xs) (omega arith))
 ]
-
-there-each : (P : Action → Type 0) (xs : List Action) (k : ℕ) → Each P xs → IfSome (slice_get xs k) P
-there-each P [] k each = tt
-there-each P (x ∷ xs) zero each = each.0
-there-each P (x ∷ xs) (suc k) each = there-each P xs k each.1
 
 abbrev named : ℕ → ℕ → ActionId
 named p n = record { creator = p; index = n }
@@ -134,5 +129,5 @@ module _ (w : World) (made : List Action) (led : IsLedWith w made) where
     at (suc n) =
         both (suc n) (slice_get (made_by id.creator made) n)
         (there-named id.creator 0 (suc n) (made_by id.creator made) n (led.all.numbered id.creator) (omega arith))
-        (there-each (Contains led.chronicle.book) (made_by id.creator made) n
+        (Each-get (Contains led.chronicle.book) (made_by id.creator made) n
         (Each-filter (Contains led.chronicle.book) (λ a. a.id.creator == id.creator) made led.all.booked))

@@ -3,10 +3,9 @@ use Rattle.std.proofs.Common.{◌≡◌, ℕ, zero, suc, ◌≤◌, ◌<◌, Boo
 use Rattle.std.proofs.lemmas.Bool.{cases_Bool, cond-true, cond-false}
 use Rattle.cg_base.specs.declared.action_id.ActionId.{ActionId}
 use Rattle.cg_base.specs.Ids.{same_id}
-use Rattle.cg_base.specs.IdLaws.{same_id-is}
+use Rattle.cg_base.specs.IdLaws.{same_id-is, same_id-self}
 use Rattle.cg_disk_records.specs.Holds.{run_on}
 use Rattle.cg_model.specs.Places.{place_of}
-use Rattle.cg_agree_lemmas.specs.BookGrows.{same-self}
 use Rattle.cg_agree_lemmas.specs.NamesTimes.{times-once, in-times}
 use Rattle.cg_agree_lemmas.specs.RepliesPlaced.{IsIn, times}
 
@@ -20,7 +19,7 @@ at-index (y ∷ ids) (suc k) id less is = inr (at-index ids k id (omega arith) i
 pub place-is : (ids : List ActionId) (k : ℕ) (id : ActionId) → times id ids ≤ 1 → k < length ids → slice_index_or ids k id ≡ id → place_of ids id ≡ suc k
 place-is [] k id once less is = absurd (omega arith)
 place-is (x ∷ ids) zero id once less is =
-    cond-true (same_id x id) 1 (suc (place_of ids id)) (subst (λ y. same_id y id ≡ true) (sym is) (same-self id))
+    cond-true (same_id x id) 1 (suc (place_of ids id)) (subst (λ y. same_id y id ≡ true) (sym is) (same_id-self id))
 place-is (x ∷ ids) (suc k) id once less is = elim (cases_Bool (same_id x id)) [
   | inl here ↦
       let later = in-times id ids (at-index ids k id (omega arith) is) in
