@@ -29,8 +29,8 @@ returns-in-Some-clause-moments g c = λ u v stands behind.
     subst (λ r. EachMoment {T = StoreState _ × _} view (λ done. done.0.disk) (IsEither self.id u v) (view self.disk) r) (sym c.paired.ensures)
     (paired_moments view (IsEither self.id u v) (view self.disk) c.write.result _ (c.write.ensures.moments u v stands here))
 
-pub returns-clause-moments : goal.returns-clause-moments
-returns-clause-moments g c = λ u v stands behind.
+pub returns-in-None-clause-moments : goal.returns-in-None-clause-moments
+returns-in-None-clause-moments g c = λ u v stands behind.
     let view = g.D.Disk.view in
     let self = c.args.self in
     subst (λ r. EachMoment {T = StoreState _ × _} view (λ done. done.0.disk) (IsEither self.id u v) (view self.disk) r) (sym c.paired-in-None.ensures)
