@@ -1,5 +1,5 @@
 -- The members of an attempt hold its parts behind each small step, where each action is the one of its name.
-use Rattle.std.proofs.Common.{◌≡◌, ℕ, Bool, true, false, cond, not, List, [], ◌∷◌, ◌++◌, length, find, fold, Option, Some, None, IfSome, is_some, refl, sym, ap, ◌∙◌, subst, inl, inr, eq-eqb, option_map, option_and_then}
+use Rattle.std.proofs.Common.{◌≡◌, ℕ, Bool, true, false, cond, not, List, [], ◌∷◌, ◌++◌, length, find, fold, Option, Some, None, IfSome, refl, sym, ap, ◌∙◌, subst, inl, inr, eq-eqb, option_map, option_and_then}
 use Rattle.std.specs.Prelude.{suc, ◌==◌}
 use Rattle.std.specs.Option.{option_map_or}
 use Rattle.std.proofs.lemmas.Bool.{cond-true, cond-false, and_parts, eqb-false, ne_eqb, false_from_ne_true}

@@ -19,7 +19,7 @@ use Rattle.cg_disk_records.specs.Stored.{whiten, recovery_turn}
 use Rattle.cg_disk_records.specs.Crash.{Disk}
 use Rattle.cg_states.specs.ReplicaStep.{on_message}
 use Rattle.cg_model.specs.World.{Up, Node, node_of, replica_of, running}
-use Rattle.cg_model.specs.Chronicle.{Told, Attempt, Chronicle, no_chronicle}
+use Rattle.cg_model.specs.Chronicle.{Told, Attempt, Chronicle}
 use Rattle.cg_model.specs.Step.{joiner_replica}
 use Rattle.cg_model.specs.Looks.{greens_of, stood_of, disk_held, snapshot_of, copied_for, told_in, attempt_at, top_of, installation, OfCores}
 use Rattle.cg_model.specs.Fronts.{Front}

@@ -1,7 +1,6 @@
 -- Counts behind a small step of who was out of an attempt's configuration before it, and of who is in it with the greens that it had.
 use Rattle.std.proofs.Common.{◌≡◌, ℕ, ◌+◌, ◌≤◌, ◌<◌, true, take, length, Option, Some, IfSome, sym, ap, ◌∙◌, subst, arith, eqb-true}
 use Rattle.std.specs.Prelude.{◌==◌}
-use Rattle.std.specs.Option.{option_map_or}
 use Rattle.std.proofs.lemmas.Bool.{cond-true}
 use Rattle.std.proofs.lemmas.Option.{same_Some}
 use Rattle.cg_base.specs.Sets.{has}

@@ -2,18 +2,16 @@
 -- than every member has received.
 use Rattle.std.proofs.Common.{◌≡◌, ℕ, ◌+◌, ◌≤◌, true, false, not, ◌++◌, take, length, length-append, is_some, Option, Some, None, IfSome, refl, sym, ap, ◌∙◌, subst, arith, eq-eqb, eqb-true}
 use Rattle.std.specs.Prelude.{◌==◌}
-use Rattle.std.specs.Option.{option_map_or}
 use Rattle.std.proofs.lemmas.Bool.{cond-true, ne_eqb}
 use Rattle.std.proofs.lemmas.Option.{same_Some}
 use Rattle.cg_base.specs.Sets.{has}
 use Rattle.cg_base.specs.FindLaws.{found_passes}
 use Rattle.cg_group.specs.declared.phase.Phase.{Phase}
-use Rattle.cg_group.specs.declared.phase.Phase.TheVariants.{Down, Alone, Regular, Transitional}
 use Rattle.cg_group.specs.State.{phase_of, is_regular, regular_in, delivered_to}
 use Rattle.cg_client.specs.Replica.{RegPrim, Replica}
 use Rattle.cg_model.specs.World.{replica_of}
 use Rattle.cg_model.specs.Chronicle.{Attempt, Chronicle}
-use Rattle.cg_model.specs.Looks.{greens_of, is_regular_at, is_regular_in, is_at, is_in, conf_at, members_in, ordered_in, received_by_all, attempt_of, attempt_at, left_count, installation}
+use Rattle.cg_model.specs.Looks.{greens_of, is_regular_in, is_at, is_in, conf_at, members_in, ordered_in, received_by_all, attempt_of, attempt_at, left_count, installation}
 use Rattle.cg_model.specs.Talk.{acts_in, state_in}
 use Rattle.cg_model.specs.Levels.{count_in}
 use Rattle.cg_model.specs.FactsNet.{IsPhase}

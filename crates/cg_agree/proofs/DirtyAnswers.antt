@@ -1,11 +1,10 @@
 -- A dirty answer is read from the replica's prefix of the order, then its yellow list, then its other reds.
-use Rattle.std.proofs.Common.{◌≡◌, ℕ, zero, suc, ◌≤◌, true, not, List, [], ◌∷◌, ◌++◌, drop, take, length, Option, Some, None, IfSome, is_some, sym, ap, ap₂, ◌∙◌, subst, arith}
+use Rattle.std.proofs.Common.{◌≡◌, ℕ, ◌≤◌, true, not, List, [], ◌∷◌, ◌++◌, take, length, Option, Some, None, IfSome, is_some, sym, ap, ap₂, ◌∙◌, subst}
 use Rattle.std.specs.Option.{option_map_or}
 use Rattle.std.proofs.lemmas.Bool.{le-leb}
 use Rattle.std.proofs.lemmas.List.{map-append}
 use Rattle.std.proofs.lemmas.List.Sums.{fold-append}
-use Rattle.cg_base.specs.declared.action_id.ActionId.{ActionId}
-use Rattle.cg_base.specs.Cuts.{index_in, raise}
+use Rattle.cg_base.specs.Cuts.{index_in}
 use Rattle.cg_base.specs.Ids.{has_name}
 use Rattle.cg_action.specs.declared.action.Action.{Action}
 use Rattle.cg_action.specs.declared.query.Query.{Query}
@@ -48,11 +47,9 @@ use Rattle.cg_agree.proofs.OrderReached.{in-order, run-some}
 use Rattle.cg_agree_lemmas.specs.OrderTold.{order_told}
 use Rattle.cg_agree.proofs.OrderedActions.{IsShownAs, shown-as, each-shown_as, all-as, ordered-as}
 use Rattle.cg_agree.proofs.RedsShown.{reds-shown}
-use Rattle.cg_disk_records.specs.Holds.{run_on}
 use Rattle.cg_agree.proofs.RunPrefix.{comes}
 use Rattle.cg_agree.proofs.TellsRun.{has-told}
 use Rattle.cg_agree_lemmas.specs.TurnRows.{each-named}
-use Rattle.cg_disk_records.specs.RunMarkLaws.{run-head, run-rest}
 use Rattle.cg_model.specs.RunLaws.{world-last}
 
 -- ---- the actions that a line names

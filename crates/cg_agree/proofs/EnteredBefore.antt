@@ -1,6 +1,5 @@
 -- Who has entered an attempt behind a small step had entered it before, or has begun it now; and what it knows in the attempt's configuration.
 use Rattle.std.proofs.Common.{◌≡◌, ℕ, true, false, not, ◌||◌, List, [], ◌∷◌, ◌++◌, Option, Some, None, IfSome, is_some, option_map, refl, sym, ap, ◌∙◌, subst, inl, inr, eq-eqb, eqb, eqb-true}
-use Rattle.std.specs.Option.{option_map_or}
 use Rattle.std.proofs.lemmas.Bool.{cond_both, and_from, or_cases}
 use Rattle.std.proofs.lemmas.Option.{same_Some}
 use Rattle.cg_base.specs.Sets.{has, is_within}

@@ -1,7 +1,6 @@
 -- In each step of a run the database of a replica that is up is the fold of its prefix of the order.
-use Rattle.std.proofs.Common.{◌≡◌, ℕ, zero, suc, ◌+◌, ◌≤◌, List, [], ◌∷◌, length, drop, Option, Some, IfSome, sym, ap, ◌∙◌, subst, arith}
+use Rattle.std.proofs.Common.{◌≡◌, ℕ, ◌+◌, List, length, drop, Option, Some, IfSome, sym, ap, ◌∙◌, subst}
 use Rattle.cg_base.specs.ListLaws.{length-dropped}
-use Rattle.cg_action.specs.declared.action.Action.{Action}
 use Rattle.cg_db.specs.Apply.{fold_actions}
 use Rattle.cg_queue.specs.Queue.{names_of, green_count}
 use Rattle.cg_client.specs.Replica.{Replica}

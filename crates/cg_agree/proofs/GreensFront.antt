@@ -16,7 +16,7 @@ use Rattle.cg_model.specs.Fronts.{Front}
 use Rattle.cg_model.specs.Looks.{past_of, greens_of, stood_of, snapshot_of, copied_for}
 use Rattle.cg_model.specs.Facts.{Invariant}
 use Rattle.cg_model.specs.Played.{AtRest}
-use Rattle.cg_model.specs.Small.{Small, Starts, Makes, Enters, Orders, Receives, Hands, Leaves, Asks, Settles, Commits, Crashes, Recovers, Copies, Joins, small_step, start, changed_past, written, struck, new_past, turning, turning_as, newly_green, after_turn, coming, handed_next, leaving, take_newest, take_next, take_parting, take_request, commit_as, crash_as, recover_as, copy_as, join_with}
+use Rattle.cg_model.specs.Small.{Small, Starts, Makes, Enters, Orders, Receives, Hands, Leaves, Asks, Settles, Commits, Crashes, Recovers, Copies, Joins, small_step, start, changed_past, struck, new_past, turning, turning_as, newly_green, after_turn, coming, handed_next, leaving, take_newest, take_next, take_parting, take_request, commit_as, crash_as, recover_as, copy_as, join_with}
 use Rattle.cg_model.specs.Smalls.{may_make, is_set}
 use Rattle.cg_agree_lemmas.specs.FrontFacts.{Front-refl, Front-append}
 use Rattle.cg_agree_lemmas.specs.ChronicleFacts.{greens_of-other, past-begun}

@@ -7,8 +7,7 @@ use Rattle.cg_base.specs.Lists.{Each}
 use Rattle.cg_base.specs.Sets.{has, is_within, with_member}
 use Rattle.cg_action.specs.declared.action.Action.{Action}
 use Rattle.cg_action.specs.declared.action.Kind.{Kind}
-use Rattle.cg_queue.specs.Queue.{Marking, Marks, Gaps, marked_yellow, green_count}
-use Rattle.cg_queue.specs.declared.mark.Mark.TheVariants.{Placed, Known}
+use Rattle.cg_queue.specs.Queue.{marked_yellow, green_count}
 use Rattle.cg_knowledge.specs.declared.summary.Summary.{Summary}
 use Rattle.cg_knowledge.specs.Summaries.{gone, senders}
 use Rattle.cg_knowledge.specs.Verdict.{decides}

@@ -1,5 +1,5 @@
 -- A green item that has a place in a configuration is no further than the order was: some member had that green as it told its summary.
-use Rattle.std.proofs.Common.{◌≡◌, ℕ, zero, suc, ◌-◌, ◌<◌, ◌≤◌, true, List, [], ◌∷◌, ◌++◌, map, flat_map, fold, length, Option, Some, None, IfSome, refl, sym, ap, subst, arith, slice_get}
+use Rattle.std.proofs.Common.{◌≡◌, ℕ, zero, suc, ◌-◌, ◌<◌, ◌≤◌, true, List, [], ◌∷◌, map, flat_map, fold, length, Option, Some, None, IfSome, refl, sym, ap, subst, arith, slice_get}
 use Rattle.std.specs.Option.{option_map_or}
 use Rattle.std.proofs.lemmas.Bool.{and_parts}
 use Rattle.cg_base.specs.EachLaws.{Each-append, Each-above, Each-front}

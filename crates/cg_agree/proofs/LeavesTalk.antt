@@ -3,9 +3,9 @@ use Rattle.std.proofs.Common.{◌≡◌, ℕ, zero, suc, ◌+◌, ◌-◌, ◌<�
 use Rattle.std.specs.Prelude.{◌==◌, slice_get}
 use Rattle.std.specs.Option.{option_map_or}
 use Rattle.std.specs.List.{list_all}
-use Rattle.std.proofs.lemmas.Bool.{cases_Bool, cases_eq, cases_lt, cond-true, cond-false, and_parts, and_from, or_left, or_right, ne_eqb}
+use Rattle.std.proofs.lemmas.Bool.{cases_Bool, cases_lt, cond-true, cond-false, and_parts, and_from, or_left, or_right, ne_eqb}
 use Rattle.std.proofs.lemmas.Option.{slice_get_within}
-use Rattle.cg_base.specs.Lists.{at_place, above_up_to, count_up}
+use Rattle.cg_base.specs.Lists.{at_place, above_up_to}
 use Rattle.cg_base.specs.Sets.{has, is_within, with_member}
 use Rattle.cg_base.specs.SetLaws.{has-with_member}
 use Rattle.cg_base.specs.MemberLaws.{list_all_in, has_count_up}

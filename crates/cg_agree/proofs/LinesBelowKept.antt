@@ -1,9 +1,8 @@
 -- A server's line is no higher than its greens, in everybody's books: behind each small step.
-use Rattle.std.proofs.Common.{◌≡◌, ℕ, suc, ◌+◌, ◌≤◌, Bool, true, false, cond, ◌||◌, List, [], ◌∷◌, drop, find, fold, map, length, Option, Some, None, IfSome, refl, sym, ap, ◌∙◌, subst, arith, inl, inr, option_and_then, eq-eqb, eqb-true}
+use Rattle.std.proofs.Common.{◌≡◌, ℕ, suc, ◌+◌, ◌≤◌, Bool, true, false, cond, ◌||◌, List, [], ◌∷◌, find, fold, map, length, Option, Some, None, IfSome, refl, sym, ap, ◌∙◌, subst, arith, inl, inr, option_and_then, eq-eqb, eqb-true}
 use Rattle.std.specs.Prelude.{◌==◌}
 use Rattle.std.specs.Option.{option_map_or}
 use Rattle.std.proofs.lemmas.Bool.{cond-true, and_parts, or_cases, or_right}
-use Rattle.std.proofs.lemmas.List.{length-drop}
 use Rattle.cg_base.specs.Lists.{Each}
 use Rattle.cg_base.specs.EachLaws.{Each-append, Each-weaker}
 use Rattle.cg_base.specs.declared.weighted.Weighted.{Weighted}

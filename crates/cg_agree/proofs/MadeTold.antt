@@ -18,7 +18,7 @@ use Rattle.cg_model.specs.FactsBooks.{MadeFits}
 use Rattle.cg_model.specs.World.{World, replica_of}
 use Rattle.cg_model.specs.Show.{Moved}
 use Rattle.cg_model.specs.Run.{Step}
-use Rattle.cg_model.specs.Shown.{made_names, made_at, made_from, position_of}
+use Rattle.cg_model.specs.Shown.{made_names, made_at, position_of}
 use Rattle.cg_model.specs.Telling.{made_of}
 use Rattle.cg_model.specs.Agreement.{through}
 use Rattle.cg_model.specs.Chronicle.{Chronicle}

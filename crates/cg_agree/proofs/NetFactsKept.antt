@@ -8,7 +8,7 @@ use Rattle.cg_model.specs.Smalls.{may_make}
 use Rattle.cg_agree.proofs.BegunKept.{members_begun-kept}
 use Rattle.cg_agree.proofs.FixedKept.{receipts_fixed-kept}
 use Rattle.cg_agree_lemmas.specs.GroupKept.{group-kept}
-use Rattle.cg_agree_lemmas.specs.GroupSound.{GroupSound, sound-of, inside-of, closed-of}
+use Rattle.cg_agree_lemmas.specs.GroupSound.{inside-of, closed-of}
 use Rattle.cg_agree.proofs.PastKept.{past_left-kept}
 use Rattle.cg_agree.proofs.HostedKept.{hosted-kept}
 use Rattle.cg_agree_lemmas.specs.UnorderedKept.{unordered_regular-kept}

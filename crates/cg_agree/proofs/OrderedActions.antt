@@ -1,8 +1,7 @@
 -- The actions of the first places of the order, as they were shown as made, are those of the book with these names.
-use Rattle.std.proofs.Common.{◌≡◌, zero, suc, ◌<◌, true, false, List, [], ◌∷◌, ◌++◌, map, length, flat_map, Option, Some, Contains, refl, sym, ap, ap₂, ◌∙◌, subst, inl, inr, arith}
+use Rattle.std.proofs.Common.{◌≡◌, zero, suc, ◌<◌, true, false, List, [], ◌∷◌, map, length, Option, Some, Contains, refl, sym, ap, ◌∙◌, subst, inl, inr, arith}
 use Rattle.std.specs.Option.{option_map_or}
 use Rattle.std.proofs.lemmas.Bool.{cases_Bool, cond-true, cond-false, or_cases}
-use Rattle.std.proofs.lemmas.List.{map-append}
 use Rattle.std.proofs.lemmas.List.Elements.{Contains-append_right}
 use Rattle.cg_base.specs.declared.action_id.ActionId.{ActionId}
 use Rattle.cg_base.specs.Ids.{same_id, has_name}
@@ -10,10 +9,9 @@ use Rattle.cg_base.specs.Lists.{present, Each}
 use Rattle.cg_base.specs.IdLaws.{same_id-is, same_id-self}
 use Rattle.cg_action.specs.declared.action.Action.{Action}
 use Rattle.cg_queue.specs.Queue.{names_of}
-use Rattle.cg_report.specs.declared.entry.Made.{Made}
 use Rattle.cg_model.specs.World.{World}
 use Rattle.cg_model.specs.Run.{Step}
-use Rattle.cg_model.specs.Shown.{made_names, made_at, made_from, made_action, made_actions}
+use Rattle.cg_model.specs.Shown.{made_names, made_action, made_actions}
 use Rattle.cg_model.specs.Telling.{made_of}
 use Rattle.cg_model.specs.Chronicle.{Chronicle}
 use Rattle.cg_model.specs.Fronts.{Front}

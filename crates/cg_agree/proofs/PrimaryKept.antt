@@ -25,7 +25,7 @@ use Rattle.cg_model.specs.Chronicle.{Past, Attempt, Chronicle}
 use Rattle.cg_model.specs.Fronts.{When}
 use Rattle.cg_model.specs.Looks.{past_of, greens_of, on_disk, disk_held, conf_at, attempt_of, attempt_at, copied_for}
 use Rattle.cg_model.specs.FactsTalk.{ModeFits, IsStateIn, IsTransitional}
-use Rattle.cg_model.specs.FactsReplica.{IsModeData, HasModeData, IsInPrimary, IsCounted, is_primary}
+use Rattle.cg_model.specs.FactsReplica.{IsModeData, HasModeData, IsCounted, is_primary}
 use Rattle.cg_model.specs.FactsAttempts.{IsAttempt}
 use Rattle.cg_model.specs.FactsGreens.{IsOnLine, IsHandedGreen, PrimaryGreens}
 use Rattle.cg_model.specs.Facts.{Invariant}

@@ -1,8 +1,6 @@
 -- At each level that stands the greatest count doesn't fall in a small step, and where nobody is regular there it doesn't rise; so
 -- what can become green at a level that is frozen is never more.
 use Rattle.std.proofs.Common.{◌≡◌, ℕ, zero, suc, ◌≤◌, ◌<◌, true, false, List, length, length-append, Option, Some, None, IfSome, refl, sym, ap, ◌∙◌, subst, arith, inl, inr, eqb, eq-eqb}
-use Rattle.std.specs.Prelude.{option_and_then}
-use Rattle.std.specs.Option.{option_map_or}
 use Rattle.std.proofs.lemmas.Bool.{or_cases, false_from_ne_true}
 use Rattle.std.proofs.lemmas.Option.{same_Some}
 use Rattle.cg_base.specs.Lists.{at_place}
@@ -12,7 +10,7 @@ use Rattle.cg_base.specs.MemberLaws.{list_any_in}
 use Rattle.cg_group.specs.PlaceLaws.{at_place-append}
 use Rattle.cg_model.specs.Chronicle.{Attempt, Chronicle}
 use Rattle.cg_model.specs.Fronts.{Front}
-use Rattle.cg_model.specs.Looks.{is_regular_at, is_regular_in, ordered_in, attempt_of, attempt_at, no_attempt, top_of}
+use Rattle.cg_model.specs.Looks.{is_regular_at, is_regular_in, ordered_in, attempt_of, attempt_at, top_of}
 use Rattle.cg_model.specs.Levels.{count_in, reached_in, reached_at, is_live, reach_at, is_frozen}
 use Rattle.cg_model.specs.FactsAttempts.{IsAttempt, LevelsStand, LeftOut}
 use Rattle.cg_model.specs.FactsGreens.{InstalledCount}

@@ -1,5 +1,5 @@
 -- The steps of a run before one of them are a run, and so are those up to it.
-use Rattle.std.proofs.Common.{◌≡◌, List, [], ◌∷◌, ◌++◌, None, refl, subst}
+use Rattle.std.proofs.Common.{◌≡◌, List, [], ◌∷◌, ◌++◌, None, subst}
 use Rattle.cg_model.specs.World.{World, no_world}
 use Rattle.cg_model.specs.Admission.{first_refusal}
 use Rattle.cg_model.specs.Step.{world_step}

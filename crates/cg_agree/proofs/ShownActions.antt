@@ -11,7 +11,6 @@ use Rattle.cg_model.specs.Run.{Step}
 use Rattle.cg_model.specs.Shown.{order_of, made_action, made_actions, ordered_actions}
 use Rattle.cg_model.specs.World.{World}
 use Rattle.cg_agree_lemmas.specs.FrontFacts.{take-Front}
-use Rattle.cg_agree_lemmas.specs.BookGrows.{IsNamed}
 use Rattle.cg_agree.proofs.OrderedActions.{IsShownAs, each-shown_as, ordered-as}
 use Rattle.cg_agree.proofs.RunSteps.{world_of, chronicle_of, StandsFor}
 use Rattle.cg_agree_lemmas.specs.BookedCores.{each-booked}

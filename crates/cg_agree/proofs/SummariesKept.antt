@@ -1,16 +1,14 @@
 -- A summary fits the greens that its sender had, and what it says of primary components stands: behind each small step.
-use Rattle.std.proofs.Common.{◌≡◌, ℕ, zero, suc, ◌+◌, ◌≤◌, ◌<◌, true, false, cond, ◌&&◌, List, [], ◌∷◌, ◌++◌, append-nil, drop, length, length-append, Option, Some, None, IfSome, refl, sym, ap, ap₂, ◌∙◌, subst, arith, inl, inr, option_and_then, eqb-true, eq-eqb}
+use Rattle.std.proofs.Common.{◌≡◌, ℕ, zero, suc, ◌+◌, ◌≤◌, ◌<◌, true, false, cond, ◌&&◌, List, [], ◌∷◌, ◌++◌, append-nil, length, Option, Some, None, IfSome, refl, sym, ap, ap₂, ◌∙◌, subst, arith, inl, inr, option_and_then, eqb-true, eq-eqb}
 use Rattle.std.specs.Prelude.{◌==◌}
 use Rattle.std.specs.Option.{option_map_or}
 use Rattle.std.proofs.lemmas.Bool.{cases_Bool, cases_lt, cond-true, cond-false, ne_eqb, and_parts}
-use Rattle.std.proofs.lemmas.List.{length-drop}
 use Rattle.cg_base.specs.Cuts.{index_in}
 use Rattle.cg_base.specs.Lists.{at_place}
 use Rattle.cg_base.specs.Weights.{ids}
 use Rattle.cg_base.specs.Text.{is_nil}
 use Rattle.cg_base.specs.ListLaws.{at_place-past, length-dropped}
 use Rattle.cg_base.specs.FindLaws.{found_passes}
-use Rattle.cg_action.specs.declared.action.Action.{Action}
 use Rattle.cg_members.specs.Servers.{members_of}
 use Rattle.cg_queue.specs.Queue.{names_of}
 use Rattle.cg_records.specs.declared.primary.Primary.{Primary}
@@ -41,7 +39,7 @@ use Rattle.cg_agree.proofs.PastKept.{EntersNow, enters-now, entry_turn, entry_to
 use Rattle.cg_agree_lemmas.specs.EntryGreens.{entry-greens, nothing-new}
 use Rattle.cg_agree_lemmas.specs.TurnParts.{record_left, HasCome, newest-come}
 use Rattle.cg_agree.proofs.LevelsKept.{start-kept, prim-kept, levels_stand-kept}
-use Rattle.cg_agree_lemmas.specs.ReachWorld.{levels-kept, level-kept}
+use Rattle.cg_agree_lemmas.specs.ReachWorld.{level-kept}
 use Rattle.cg_agree_lemmas.specs.AttemptsGrow.{attempts-grow}
 use Rattle.cg_agree_lemmas.specs.RecordKept.{recorded-later}
 use Rattle.cg_agree.proofs.ReachedGrows.{top-grows}

@@ -1,9 +1,8 @@
 -- The small step by which a replica enters the newest configuration keeps the facts about what is said.
-use Rattle.std.proofs.Common.{◌≡◌, ℕ, zero, suc, Bool, true, false, cond, not, List, [], ◌∷◌, ◌++◌, IfSome, refl, sym, ap, ap₂, ◌∙◌, eqb-true, eq-eqb, append-nil, subst, arith}
+use Rattle.std.proofs.Common.{◌≡◌, ℕ, zero, suc, Bool, true, false, cond, not, [], ◌∷◌, ◌++◌, IfSome, refl, sym, ap, ap₂, ◌∙◌, eqb-true, eq-eqb, append-nil, subst, arith}
 use Rattle.std.specs.Prelude.{◌==◌}
 use Rattle.std.specs.Option.{option_map_or}
 use Rattle.std.proofs.lemmas.Bool.{cond-true, false_from_ne_true, and_parts, ne_eqb, not-true}
-use Rattle.cg_base.specs.Text.{is_nil}
 use Rattle.cg_base.specs.BoolLaws.{cond_twice}
 use Rattle.cg_wire.specs.declared.message.Msg.{Msg}
 use Rattle.cg_wire.specs.declared.message.Msg.TheVariants.{State as StateMsg}

@@ -31,9 +31,6 @@ use Rattle.cg_agree_lemmas.specs.MadeSplit.{rising-set-list}
 use Rattle.cg_agree_lemmas.specs.RestsBehind.{handed-ids, split-to}
 use Rattle.cg_agree_lemmas.specs.WorldTurns.{hand-behind}
 
--- ---- lists
-
-module _ {X : Type 0} (P : X → Type 0) where
 -- ---- messages
 
 of-message : (P : Action → Type 0) (m : Msg) → IfSome (action_in m) P → OfMessage P m

@@ -1,7 +1,6 @@
 -- The book of all actions grows by what a replica makes: each next action is the next of its creator, so that a name stands for one.
 use Rattle.std.proofs.Common.{◌≡◌, ℕ, suc, max, Bool, true, false, cond, ◌||◌, List, [], ◌∷◌, ◌++◌, fold, find, append-nil, append_assoc, Option, Some, None, refl, sym, ap, ◌∙◌, subst, arith, inl, inr}
-use Rattle.std.specs.Prelude.{◌==◌}
-use Rattle.std.proofs.lemmas.Bool.{cases_Bool, cond-true, cond-false, and_parts, and_from, eq-eqb, false_from_ne_true}
+use Rattle.std.proofs.lemmas.Bool.{cases_Bool, cond-true, cond-false, and_parts, false_from_ne_true}
 use Rattle.cg_base.specs.Lists.{Each}
 use Rattle.cg_base.specs.declared.action_id.ActionId.{ActionId}
 use Rattle.cg_base.specs.Cuts.{index_in, raise}
@@ -17,7 +16,7 @@ use Rattle.cg_disk_records.specs.Holds.{run_on, cut_behind, Rising}
 use Rattle.cg_disk_records.specs.CutRaiseLaws.{index-same, index-other, rising-behind}
 use Rattle.cg_disk_records.specs.RunLaws.{cut_behind-append, run_on-append, run_on-next}
 use Rattle.cg_disk_records.specs.RunMarkLaws.{names-new, run-head}
-use Rattle.cg_disk_records.specs.HeldLaws.{names-behind, are_of, created-behind}
+use Rattle.cg_disk_records.specs.HeldLaws.{names-behind, created-behind}
 use Rattle.cg_agree_lemmas.specs.DiskAhead.{OwnRuns}
 use Rattle.cg_disk_records.specs.HoldsValueLaws.{mine-behind}
 

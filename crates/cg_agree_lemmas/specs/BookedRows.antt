@@ -1,5 +1,5 @@
 -- What holds of each action that comes holds of all that a replica holds and says through a turn.
-use Rattle.std.proofs.Common.{◌≡◌, ℕ, zero, suc, ◌-◌, Bool, not, List, [], ◌∷◌, ◌++◌, fold, find, drop, flat_map, Some, None, refl, sym, ◌∙◌, subst, option_map, if◌then◌else◌}
+use Rattle.std.proofs.Common.{◌≡◌, ℕ, zero, suc, ◌-◌, Bool, not, List, [], ◌∷◌, ◌++◌, fold, find, flat_map, Some, None, refl, sym, ◌∙◌, subst, option_map, if◌then◌else◌}
 use Rattle.std.specs.Prelude.{◌==◌, nat_le}
 use Rattle.std.specs.Option.{option_to_list}
 use Rattle.std.proofs.lemmas.Bool.{cond_both}

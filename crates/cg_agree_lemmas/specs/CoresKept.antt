@@ -1,6 +1,6 @@
 -- A fact of every core (what a replica holds in memory, on its disk, and in a snapshot) through a small step: it has to stand
 -- behind a commit, a recovery and a joining, and behind the turn where a replica has one.
-use Rattle.std.proofs.Common.{◌≡◌, ℕ, ◌≢◌, Bool, true, false, cond, not, List, [], ◌++◌, find, filter, Option, Some, None, IfSome, is_some, refl, sym, ap, ap₂, ◌∙◌, subst, inl, inr, eqb-true, eq-eqb, option_map}
+use Rattle.std.proofs.Common.{◌≡◌, ℕ, ◌≢◌, true, false, cond, not, List, [], ◌++◌, find, filter, Option, Some, None, IfSome, is_some, refl, sym, ap, ap₂, ◌∙◌, subst, inl, inr, eqb-true, eq-eqb, option_map}
 use Rattle.std.specs.Prelude.{◌==◌, option_and_then}
 use Rattle.std.specs.Option.{option_map_or}
 use Rattle.std.proofs.lemmas.Bool.{cases_eq, cond-true, cond-false, ne_eqb}
@@ -15,8 +15,8 @@ use Rattle.cg_model.specs.World.{NodeState, Up, Down, Node, TransferState, runni
 use Rattle.cg_model.specs.Step.{joiner_replica}
 use Rattle.cg_model.specs.Chronicle.{Past, Copy, Chronicle}
 use Rattle.cg_model.specs.Looks.{past_of, greens_of, stood_of, on_disk, disk_held, snapshot_of, copied_for, OfCores}
-use Rattle.cg_model.specs.Small.{changed_past, written, struck, after_turn, turning, turning_as, newly_green, with_greens, commit, commit_as, crash, crash_as, note_recovery, recover_as, copy, copy_as}
-use Rattle.cg_agree_lemmas.specs.ChronicleFacts.{node_of-set, greens_of-own, greens_of-other, past_of-turn}
+use Rattle.cg_model.specs.Small.{changed_past, written, struck, after_turn, turning, turning_as, newly_green, commit, commit_as, crash, crash_as, note_recovery, recover_as, copy, copy_as}
+use Rattle.cg_agree_lemmas.specs.ChronicleFacts.{node_of-set, greens_of-own, greens_of-other}
 use Rattle.cg_agree_lemmas.specs.Keyed.{found-changed}
 use Rattle.cg_agree_lemmas.specs.HeldCommit.{recovered-id}
 use Rattle.cg_agree_lemmas.specs.OneselfWorld.{HavePasts, rehosted, stood-same}

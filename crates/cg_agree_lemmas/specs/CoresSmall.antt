@@ -1,5 +1,5 @@
 -- A fact of every core through each of the small steps.
-use Rattle.std.proofs.Common.{◌⊎◌, ◌≡◌, ℕ, ◌≢◌, true, false, not, List, [], ◌∷◌, map, fold, find, filter, Option, Some, None, IfSome, is_some, refl, sym, ap, ◌∙◌, subst, inl, inr, eq-eqb, option_map}
+use Rattle.std.proofs.Common.{◌⊎◌, ◌≡◌, ℕ, ◌≢◌, true, false, not, List, [], ◌∷◌, map, fold, find, filter, Option, Some, None, IfSome, refl, sym, ap, ◌∙◌, subst, inl, inr, eq-eqb, option_map}
 use Rattle.std.specs.Prelude.{◌==◌, option_and_then}
 use Rattle.std.specs.Option.{option_map_or}
 use Rattle.std.proofs.lemmas.Bool.{cases_eq, cases_Bool, cond-true, cond-false, ne_eqb, and_parts, not-true}

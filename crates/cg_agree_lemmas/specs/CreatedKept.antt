@@ -1,12 +1,10 @@
 -- What a replica has created stays the same through all that is handed to it: an own action that becomes known is waited for no more.
 use Rattle.std.proofs.Common.{◌≡◌, ℕ, suc, ◌-◌, ◌≤◌, max, Bool, true, false, List, [], ◌∷◌, drop, length, fold, Option, refl, sym, ap, ap₂, ◌∙◌, subst, arith, inl, inr}
-use Rattle.std.proofs.lemmas.Bool.{cases_eq, cases_order, cases_Bool}
+use Rattle.std.proofs.lemmas.Bool.{cases_eq, cases_order}
 use Rattle.cg_base.specs.EachLaws.{Each-all}
 use Rattle.cg_base.specs.declared.action_id.ActionId.{ActionId}
 use Rattle.cg_base.specs.declared.weighted.Weighted.{Weighted}
 use Rattle.cg_base.specs.Cuts.{index_in, raise}
-use Rattle.cg_base.specs.Ids.{same_id}
-use Rattle.cg_base.specs.IdLaws.{same_id-is}
 use Rattle.cg_action.specs.declared.action.Action.{Action}
 use Rattle.cg_action.specs.declared.action.Kind.{Kind}
 use Rattle.cg_queue.specs.Queue.{names_of, Marks, placed_red}

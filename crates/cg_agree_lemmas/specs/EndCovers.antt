@@ -9,7 +9,7 @@ use Rattle.cg_base.specs.Ids.{has_name, same_id}
 use Rattle.cg_knowledge.specs.declared.summary.Summary.{Summary}
 use Rattle.cg_knowledge.specs.Summaries.{lower, lowest}
 use Rattle.cg_knowledge.specs.Yellow.{yellow_group, is_green_at_most, is_in_each, is_common, yellow_of, common_yellow}
-use Rattle.cg_base.specs.IdLaws.{same_id-true, same_id-self}
+use Rattle.cg_base.specs.IdLaws.{same_id-self}
 use Rattle.cg_model.specs.Fronts.{Front}
 use Rattle.cg_agree_lemmas.specs.FrontFacts.{Front-rest, split_by_Front, common-covers}
 

@@ -1,8 +1,7 @@
 -- The members of a split and of a merge: what their small steps ask for holds where the event is admitted in a sound world.
-use Rattle.std.proofs.Common.{◌≡◌, ℕ, ◌≤◌, Bool, true, false, not, List, [], ◌∷◌, Option, Some, None, IfSome, map, find, refl, sym, ap, ◌∙◌, ⊎_elim, eqb-true, subst, is_some, is_none, option_map, option_and_then, fold, max, arith}
+use Rattle.std.proofs.Common.{◌≡◌, ℕ, ◌≤◌, Bool, true, false, not, List, [], ◌∷◌, Option, Some, None, IfSome, map, find, refl, sym, ap, ◌∙◌, eqb-true, subst, is_some, is_none, option_map, option_and_then, fold, max, arith}
 use Rattle.std.specs.Prelude.{◌==◌}
 use Rattle.std.specs.Option.{option_map_or}
-use Rattle.std.proofs.lemmas.Bool.{cases_Bool, cond-true, cond-false}
 use Rattle.cg_base.specs.Sets.{has}
 use Rattle.cg_base.specs.Text.{is_nil}
 use Rattle.cg_wire.specs.declared.message.Msg.{Msg}

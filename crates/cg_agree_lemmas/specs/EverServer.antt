@@ -1,5 +1,5 @@
 -- Who is or was a server is so behind more greens; and who is a server of the start is so behind none.
-use Rattle.std.proofs.Common.{◌≡◌, ℕ, suc, Bool, true, false, not, ◌||◌, List, [], ◌∷◌, map, min, max, refl, sym, ap, ap₂, subst, ◌∙◌, eqb-true, eq-eqb, ⊎_elim, if◌then◌else◌, nat_lt}
+use Rattle.std.proofs.Common.{◌≡◌, ℕ, suc, Bool, true, false, not, ◌||◌, List, [], ◌∷◌, map, min, refl, sym, ap, subst, ◌∙◌, eqb-true, eq-eqb, ⊎_elim, if◌then◌else◌, nat_lt}
 use Rattle.std.specs.Prelude.{◌==◌}
 use Rattle.std.proofs.lemmas.Bool.{cases_eq, cond_both, or_cases, or_left, or_right}
 use Rattle.cg_base.specs.declared.weighted.Weighted.{Weighted}
@@ -11,7 +11,7 @@ use Rattle.cg_action.specs.declared.action.Kind.{Kind}
 use Rattle.cg_action.specs.declared.action.Kind.TheVariants.{Update, Join, Leave}
 use Rattle.cg_members.specs.declared.server.Server.{Server}
 use Rattle.cg_members.specs.Members.{Members}
-use Rattle.cg_members.specs.Servers.{is_among, is_server, was_ever, first_line, with_server, without_server, with_line, starting, with_joiner, departed, after_kind, after_green, after_greens, members_of}
+use Rattle.cg_members.specs.Servers.{is_among, is_server, was_ever, first_line, with_server, without_server, starting, with_joiner, departed, after_kind, after_green, after_greens, members_of}
 use Rattle.cg_model.specs.Fronts.{Front}
 use Rattle.cg_members.specs.MemberLaws.{is_among-with_line}
 

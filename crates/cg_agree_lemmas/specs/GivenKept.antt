@@ -1,7 +1,7 @@
 -- Snapshots and their copies: one a joiner, also where those of a giver or of a joiner end, and where one more comes.
 use Rattle.std.proofs.Common.{◌≡◌, ℕ, suc, ◌≤◌, Bool, true, false, cond, not, List, [], ◌∷◌, map, filter, length, refl, sym, ap, subst, ◌∙◌, ⊎_elim, arith, eqb-true}
 use Rattle.std.specs.Prelude.{◌==◌}
-use Rattle.std.proofs.lemmas.Bool.{cases_Bool, cases_eq, cond-true, cond-false, cond_both, ne_eqb}
+use Rattle.std.proofs.lemmas.Bool.{cases_Bool, cases_eq, cond-true, cond-false, ne_eqb}
 use Rattle.cg_base.specs.ListLaws.{length-filter}
 use Rattle.cg_group.specs.LookupLaws.{at-cond}
 use Rattle.cg_model.specs.World.{TransferState}

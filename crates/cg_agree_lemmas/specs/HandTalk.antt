@@ -1,9 +1,8 @@
 -- Whatever a member is handed in its regular phase, it has said what is due behind the talk with it: each kind of message.
 use Rattle.std.proofs.Common.{◌≡◌, ℕ, suc, Bool, true, false, cond, not, ◌&&◌, List, [], ◌∷◌, ◌++◌, Option, filter_map, fold, refl, sym, ap, ◌∙◌, ⊎_elim, append-nil, if◌then◌else◌, arith, ◌-◌, subst}
 use Rattle.std.specs.Prelude.{◌==◌}
-use Rattle.std.proofs.lemmas.Bool.{and_parts, and_from, cond_both, cases_Bool, cond-true, cond-false, or_left}
+use Rattle.std.proofs.lemmas.Bool.{and_parts, and_from, cond_both, cases_Bool, cond-true, cond-false}
 use Rattle.cg_base.specs.Sets.{has, is_within, with_member}
-use Rattle.cg_base.specs.SetLaws.{is_within-has, is_within-from, has-with_member}
 use Rattle.cg_base.specs.MemberLaws.{is_within_more}
 use Rattle.cg_action.specs.declared.action.Action.{Action}
 use Rattle.cg_queue.specs.Queue.{Marking, Marks, Gaps, marked_red, green_count}

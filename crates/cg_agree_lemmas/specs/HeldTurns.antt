@@ -1,7 +1,7 @@
 -- One replica's facts through the parts of a turn: marks, own actions, an installation, creation.
 use Rattle.std.proofs.Common.{◌≡◌, ℕ, suc, ◌+◌, ◌<◌, List, [], ◌∷◌, ◌++◌, length, cond, Bool, true, false, not, fold, refl, sym, ap, ◌∙◌, subst, arith, inl, inr, eqb-true, append-nil}
 use Rattle.std.specs.Prelude.{◌==◌, Option}
-use Rattle.std.proofs.lemmas.Bool.{cases_order, cases_Bool, eq-eqb, ne_eqb, lt-leb, and_parts, and_from}
+use Rattle.std.proofs.lemmas.Bool.{cases_order, cases_Bool, ne_eqb, lt-leb, and_parts}
 use Rattle.std.proofs.lemmas.List.{append_assoc}
 use Rattle.cg_base.specs.declared.action_id.ActionId.{ActionId}
 use Rattle.cg_base.specs.declared.weighted.Weighted.{Weighted}

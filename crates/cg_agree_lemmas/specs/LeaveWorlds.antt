@@ -2,7 +2,7 @@
 use Rattle.std.proofs.Common.{◌≡◌, ℕ, zero, suc, ◌+◌, ◌-◌, ◌≤◌, ◌<◌, Bool, true, false, ◌&&◌, List, [], ◌∷◌, filter, length, refl, sym, ap, ap₂, ◌∙◌, ⊎_elim, eqb-true, nat_le, arith, inl, inr, ◌⊎◌}
 use Rattle.std.specs.Prelude.{◌==◌}
 use Rattle.std.specs.List.{list_any, list_all}
-use Rattle.std.proofs.lemmas.Bool.{cond-true, cond_both, and_from, lt-ltb, le-leb, cases_Bool, or_cases, or_right, eqb-false, leb-true, leb-false}
+use Rattle.std.proofs.lemmas.Bool.{cond-true, cond_both, and_from, lt-ltb, le-leb, cases_Bool, or_cases, or_right, leb-true, leb-false}
 use Rattle.cg_base.specs.Lists.{count_up, above_up_to, Each}
 use Rattle.cg_base.specs.Sets.{has}
 use Rattle.cg_wire.specs.declared.message.Msg.{Msg}

@@ -1,6 +1,5 @@
 -- Servers are those of the greens, and the white count is below each line, in every core: behind each small step.
-use Rattle.std.proofs.Common.{◌≡◌, ℕ, suc, ◌+◌, ◌≤◌, true, false, List, [], ◌∷◌, ◌++◌, drop, length, Option, Some, None, IfSome, sym, ap, ap₂, ◌∙◌, subst, arith, option_and_then}
-use Rattle.std.proofs.lemmas.List.{length-drop}
+use Rattle.std.proofs.Common.{◌≡◌, ℕ, suc, ◌+◌, ◌≤◌, true, false, List, [], ◌∷◌, ◌++◌, length, Option, Some, None, IfSome, sym, ap, ap₂, ◌∙◌, subst, arith, option_and_then}
 use Rattle.cg_base.specs.declared.weighted.Weighted.{Weighted}
 use Rattle.cg_base.specs.ListLaws.{length-dropped}
 use Rattle.cg_action.specs.declared.action.Action.{Action}

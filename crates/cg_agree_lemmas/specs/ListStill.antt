@@ -1,6 +1,6 @@
 -- A member of an attempt holds the attempt's parts still, where what it holds of them and its greens are as before.
 use Rattle.std.proofs.Common.{◌≡◌, ℕ, Bool, true, false, List, [], ◌∷◌, ◌++◌, drop, find, Option, Some, None, IfSome, refl, sym, ap, ap₂, ◌∙◌, subst, ⊎_elim, arith, eqb-true, if◌then◌else◌}
-use Rattle.std.specs.Prelude.{◌==◌, nat_le, nat_lt, not, ◌&&◌, ◌||◌, suc, zero, ◌≤◌, ◌<◌}
+use Rattle.std.specs.Prelude.{◌==◌, nat_le, nat_lt, not, ◌&&◌, suc, zero, ◌≤◌, ◌<◌}
 use Rattle.std.specs.Option.{option_to_list}
 use Rattle.std.specs.List.{list_all}
 use Rattle.std.proofs.lemmas.Bool.{cases_Bool, cond-false, and_parts, not-true, leb-true, leb-false, or_parts}

@@ -1,11 +1,10 @@
 -- The steps of a crash between two events, of a recovery, and of a transfer are made of small steps.
-use Rattle.std.proofs.Common.{◌≡◌, ℕ, Bool, true, false, not, List, [], ◌∷◌, Option, Some, None, refl, sym, ap, ◌∙◌, is_some, is_none}
+use Rattle.std.proofs.Common.{◌≡◌, ℕ, true, false, not, List, [], ◌∷◌, Option, Some, None, refl, sym, ap, ◌∙◌, is_some, is_none}
 use Rattle.std.specs.Option.{option_map_or}
 use Rattle.std.proofs.lemmas.Bool.{and_from}
-use Rattle.cg_group.specs.declared.reason.Reason.{Reason}
 use Rattle.cg_group.specs.declared.reason.Reason.TheVariants.{NotUp}
 use Rattle.cg_group.specs.State.{is_up}
-use Rattle.cg_group.specs.Refusals.{refuse, not_up}
+use Rattle.cg_group.specs.Refusals.{not_up}
 use Rattle.cg_client.specs.Replica.{Replica}
 use Rattle.cg_schedule.specs.declared.event.Event.TheVariants.{Recover, Stop}
 use Rattle.cg_model.specs.World.{NodeState, Up, Down, Node, World, has_begun, node_of, replica_of}

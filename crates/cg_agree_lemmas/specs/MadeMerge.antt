@@ -1,5 +1,5 @@
 -- The step of a merge is made of small steps: a configuration is made, and each member enters it and creates what it kept.
-use Rattle.std.proofs.Common.{◌≡◌, ℕ, suc, ◌≤◌, true, false, not, ◌&&◌, List, [], ◌∷◌, ◌++◌, Option, Some, None, map, fold, flat_map, length, refl, sym, ap, ap₂, ◌∙◌, subst, option_and_then, arith, eq-eqb}
+use Rattle.std.proofs.Common.{◌≡◌, ℕ, suc, ◌≤◌, true, false, not, ◌&&◌, List, [], ◌∷◌, Option, Some, None, map, fold, flat_map, length, refl, sym, ap, ap₂, ◌∙◌, subst, option_and_then, arith, eq-eqb}
 use Rattle.std.specs.Prelude.{◌==◌}
 use Rattle.std.specs.Option.{option_map_or}
 use Rattle.std.specs.List.{list_all}

@@ -8,7 +8,6 @@ use Rattle.std.proofs.lemmas.Option.{same_Some}
 use Rattle.cg_base.specs.FindLaws.{found_passes}
 use Rattle.cg_members.specs.Servers.{is_server}
 use Rattle.cg_group.specs.declared.reason.Reason.TheVariants.{JoinNotGreen}
-use Rattle.cg_group.specs.LookupLaws.{at-cond}
 use Rattle.cg_client.specs.Replica.{Replica}
 use Rattle.cg_disk_records.specs.Crash.{new_disk}
 use Rattle.cg_schedule.specs.declared.event.Event.TheVariants.{Transfer}

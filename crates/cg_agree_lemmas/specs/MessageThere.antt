@@ -1,8 +1,8 @@
 -- What is known of a message where it is handed: its action is booked, and a green item is what its sender told.
-use Rattle.std.proofs.Common.{◌≡◌, ℕ, zero, suc, Bool, true, false, cond, ◌&&◌, List, [], ◌∷◌, ◌++◌, map, filter, find, Option, Some, None, IfSome, refl, sym, ap, subst, ◌∙◌, ⊎_elim, arith, eq-eqb}
+use Rattle.std.proofs.Common.{◌≡◌, ℕ, zero, suc, Bool, true, false, cond, ◌&&◌, List, [], ◌∷◌, map, filter, find, Option, Some, None, IfSome, refl, sym, ap, subst, ◌∙◌, ⊎_elim, arith, eq-eqb}
 use Rattle.std.specs.Prelude.{◌==◌, nat_lt, nat_le, slice_get, filter_map}
 use Rattle.std.specs.Option.{option_map_or}
-use Rattle.std.proofs.lemmas.Bool.{cases_Bool, cond-true, cond-false, and_parts, and_from, or_left, or_right, leb-true}
+use Rattle.std.proofs.lemmas.Bool.{cases_Bool, cond-true, cond-false, and_parts, or_left, or_right, leb-true}
 use Rattle.cg_base.specs.declared.action_id.ActionId.{ActionId}
 use Rattle.cg_base.specs.Cuts.{index_in}
 use Rattle.cg_base.specs.Ids.{same_id, has_name}
@@ -11,7 +11,6 @@ use Rattle.cg_action.specs.declared.action.Action.{Action}
 use Rattle.cg_queue.specs.Queue.{names_of}
 use Rattle.cg_wire.specs.declared.message.Msg.{Msg}
 use Rattle.cg_group.specs.State.{Sent}
-use Rattle.cg_group.specs.LookupLaws.{eqb_comm}
 use Rattle.cg_client.specs.Replica.{Held, created}
 use Rattle.cg_client.specs.Marks.{is_unmade}
 use Rattle.cg_model.specs.Chronicle.{Told, Chronicle}

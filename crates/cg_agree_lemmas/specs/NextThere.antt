@@ -1,5 +1,5 @@
 -- What a message that is to get its place, and a place that is to be received, are: as the tests of the group let them through.
-use Rattle.std.proofs.Common.{◌≡◌, ℕ, zero, suc, ◌-◌, ◌<◌, ◌≤◌, Bool, true, false, cond, not, List, [], ◌∷◌, length, Option, Some, None, refl, sym, ap, subst, ◌∙◌, arith, ⊎_elim, option_map, find}
+use Rattle.std.proofs.Common.{◌≡◌, ℕ, zero, suc, ◌-◌, ◌<◌, ◌≤◌, true, false, not, List, [], ◌∷◌, length, Option, Some, None, refl, sym, ap, subst, ◌∙◌, arith, ⊎_elim, option_map, find}
 use Rattle.std.specs.Prelude.{◌==◌, is_none}
 use Rattle.std.specs.Option.{option_map_or}
 use Rattle.std.proofs.lemmas.Bool.{cases_lt}
@@ -8,7 +8,6 @@ use Rattle.cg_base.specs.Sets.{has}
 use Rattle.cg_base.specs.ListLaws.{at_place-past}
 use Rattle.cg_wire.specs.declared.message.Msg.{Msg}
 use Rattle.cg_group.specs.declared.phase.Phase.TheVariants.{Down, Regular}
-use Rattle.cg_group.specs.declared.reason.Reason.{Reason}
 use Rattle.cg_group.specs.declared.reason.Reason.TheVariants.{EarlierMissing}
 use Rattle.cg_group.specs.State.{Standing, GroupState, standing_of, phase_of, is_regular, regular_in, delivered_to, home, configuration, has_received}
 use Rattle.cg_group.specs.Refusals.{sender_at, is_missing, receive_refusal, not_up, not_regular, no_such_place, already_received, earlier_missing}

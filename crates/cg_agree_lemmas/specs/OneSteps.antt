@@ -5,10 +5,9 @@ use Rattle.std.specs.Option.{option_map_or}
 use Rattle.std.proofs.lemmas.Bool.{and_parts, not-true}
 use Rattle.cg_base.specs.Text.{is_nil}
 use Rattle.cg_members.specs.Servers.{is_server}
-use Rattle.cg_wire.specs.declared.message.Msg.{Msg}
 use Rattle.cg_group.specs.declared.phase.Phase.{Phase}
 use Rattle.cg_group.specs.declared.phase.Phase.TheVariants.{Down, Alone, Regular, Transitional}
-use Rattle.cg_group.specs.State.{GroupState, Standing, standing_of, phase_of, is_up, is_regular, regular_in, delivered_to}
+use Rattle.cg_group.specs.State.{phase_of, is_up, is_regular, regular_in, delivered_to}
 use Rattle.cg_group.specs.LookupLaws.{at-cond, eqb_comm, same_both}
 use Rattle.cg_client.specs.Replica.{Held, Replica}
 use Rattle.cg_client.specs.Turn.{Turn, begin}

@@ -1,6 +1,6 @@
 -- What a member that remains holds behind each item of a plan: the greens of the most updated member up to a place, and of each
 -- creator what it knew, what is green, and the reds among the items. Each item leads on to the next.
-use Rattle.std.proofs.Common.{◌⊎◌, inl, inr, ◌≡◌, ℕ, zero, suc, ◌+◌, ◌-◌, ◌<◌, ◌≤◌, true, false, cond, not, List, [], ◌∷◌, ◌++◌, length, drop, min, max, take, Option, Some, None, IfSome, refl, sym, ap, subst, ◌∙◌, ⊎_elim, arith, eq-eqb}
+use Rattle.std.proofs.Common.{◌⊎◌, inl, inr, ◌≡◌, ℕ, zero, suc, ◌+◌, ◌-◌, ◌<◌, ◌≤◌, true, false, cond, not, List, [], ◌∷◌, ◌++◌, length, min, max, take, Option, Some, None, IfSome, refl, sym, ap, subst, ◌∙◌, ⊎_elim, arith, eq-eqb}
 use Rattle.std.specs.Prelude.{◌==◌, slice_get}
 use Rattle.std.specs.Option.{option_map_or}
 use Rattle.std.proofs.lemmas.Bool.{cases_eq, cases_lt, cond-true, cond-false, and_parts, and_from, ne_eqb}
@@ -21,7 +21,6 @@ use Rattle.cg_client.specs.Turn.{Turn}
 use Rattle.cg_client.specs.Marks.{is_unmade, marked, mark_red, after_first, can_be_green, place_green, mark_green, mark_green_at, with_green}
 use Rattle.cg_model.specs.Chronicle.{Told}
 use Rattle.cg_model.specs.FactsExchange.{red_index, red_behind}
-use Rattle.cg_model.specs.FactsReplica.{IsMadeOf}
 use Rattle.cg_disk_records.specs.Holds.{run_on, cut_behind}
 use Rattle.cg_agree_lemmas.specs.HandNext.{take-next}
 use Rattle.cg_agree_lemmas.specs.HeldMarks.{IsOneself, rising-green, rising-red, red-oneself, green-oneself}

@@ -3,7 +3,7 @@
 use Rattle.std.proofs.Common.{◌≡◌, ℕ, suc, ◌+◌, ◌≤◌, ◌<◌, Bool, true, false, cond, ◌||◌, List, [], ◌∷◌, ◌++◌, length, take, refl, sym, ap, ap₂, ◌∙◌, ⊎_elim, subst, arith, eqb-true, eq-eqb, length-append}
 use Rattle.std.specs.Prelude.{◌==◌}
 use Rattle.std.specs.List.{list_any, list_all}
-use Rattle.std.proofs.lemmas.Bool.{cases_Bool, cond-true, cond_both, and_parts, and_from, and_cases, or_cases, or_left, or_right, not-true, not_from_false, ltb-true}
+use Rattle.std.proofs.lemmas.Bool.{cases_Bool, cond-true, cond_both, and_parts, and_cases, or_cases, or_left, or_right, not-true, not_from_false, ltb-true}
 use Rattle.cg_base.specs.Sets.{has}
 use Rattle.cg_base.specs.MemberLaws.{list_all_in}
 use Rattle.cg_action.specs.declared.action.Action.{Action}

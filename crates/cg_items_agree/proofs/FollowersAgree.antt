@@ -1,7 +1,5 @@
 -- The followers of a run agree: what is kept of them goes on with what is told, from one item to the next.
-use Rattle.std.proofs.Common.{◌≡◌, ℕ, ◌≤◌, true, false, List, [], ◌∷◌, ◌++◌, map, length, Option, Some, None, refl, sym, ap, ap₂, ◌∙◌, subst, inl, inr, arith, append_assoc, append-nil, option_and_then}
-use Rattle.std.proofs.lemmas.List.{map-append}
-use Rattle.cg_base.specs.Lists.{present}
+use Rattle.std.proofs.Common.{◌≡◌, ℕ, ◌≤◌, true, false, List, [], ◌∷◌, ◌++◌, length, Option, Some, None, refl, sym, ap, ap₂, ◌∙◌, subst, inl, inr, arith, append_assoc, append-nil, option_and_then}
 use Rattle.cg_group.specs.declared.reason.Reason.{Reason}
 use Rattle.cg_model.specs.World.{World, no_world}
 use Rattle.cg_model.specs.Run.{Step, IsRunFrom, world_after}
@@ -22,7 +20,6 @@ use Rattle.cg_items.specs.Refused.{Refused}
 use Rattle.cg_items.specs.OfRun.{IsFirst, AreOfRun}
 use Rattle.cg_items.specs.AfterItems.{ItemAfter, world_behind, order_behind}
 use Rattle.cg_items.specs.FollowersAgree.{FollowersAgree, IsOfOrder, follow_event_of, follow_lines, follow_due, cursor_shown, followers_in, followers_behind, at_cursor, left_by, told_follow_refusal}
-use Rattle.cg_base.specs.ElementLaws.{present-append}
 use Rattle.cg_items_agree.proofs.OrderActions.{ordered-more, order-longer}
 use Rattle.cg_items_agree.proofs.ItemParts.{is_following, MayKeep, IsOther, IsOwn, kind-kept, is-followers, parts-of, kept-last, noted-there, lines-of}
 use Rattle.cg_items_agree.proofs.FollowersTold.{Told, told_of, told_behind, told-last}

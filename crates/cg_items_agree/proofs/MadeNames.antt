@@ -1,7 +1,6 @@
 -- The made actions of names: each is the one of its name, and where all names were shown as made, they have these names.
-use Rattle.std.proofs.Common.{◌≡◌, true, false, List, [], ◌∷◌, ◌++◌, map, flat_map, take, Option, Some, None, refl, sym, ap, ap₂, ◌∙◌, inl, inr, append_assoc, append-nil}
+use Rattle.std.proofs.Common.{◌≡◌, true, false, List, [], ◌∷◌, ◌++◌, map, take, Option, Some, None, refl, sym, ap, ap₂, ◌∙◌, inl, inr, append_assoc, append-nil}
 use Rattle.std.proofs.lemmas.Bool.{cases_Bool, cond-true, cond-false, or_cases}
-use Rattle.std.proofs.lemmas.List.{map-append}
 use Rattle.cg_base.specs.EachLaws.{Each-append}
 use Rattle.cg_base.specs.declared.action_id.ActionId.{ActionId}
 use Rattle.cg_base.specs.Ids.{same_id, has_name}
@@ -10,7 +9,6 @@ use Rattle.cg_base.specs.IdLaws.{same_id-is, same_id-back}
 use Rattle.cg_base.specs.FindLaws.{found_passes}
 use Rattle.cg_action.specs.declared.action.Action.{Action}
 use Rattle.cg_queue.specs.Queue.{names_of}
-use Rattle.cg_report.specs.declared.entry.Made.{Made}
 use Rattle.cg_report.specs.declared.line.UpLine.{UpLine}
 use Rattle.cg_model.specs.Run.{Step}
 use Rattle.cg_model.specs.Shown.{made_names, made_at, made_from, made_action, made_actions, order_of, ordered_actions}

@@ -1,15 +1,13 @@
 -- The logs that a run shows are parts of its order.
 use Rattle.std.proofs.Common.{◌≡◌, ℕ, zero, suc, ◌<◌, List, [], ◌∷◌, ◌++◌, map, length, Some, None, Contains, refl, sym, ap, ◌∙◌, subst, arith, append_assoc}
-use Rattle.std.proofs.lemmas.List.{map-append}
 use Rattle.std.proofs.lemmas.List.Elements.{Contains-append_right}
 use Rattle.cg_base.specs.declared.action_id.ActionId.{ActionId}
 use Rattle.cg_base.specs.Lists.{present, at_place, Each}
 use Rattle.cg_base.specs.EachLaws.{Each-append}
-use Rattle.cg_report.specs.declared.entry.Placed.{Placed}
 use Rattle.cg_report.specs.declared.entry.Shown.{Shown}
 use Rattle.cg_report.specs.declared.entry.Shown.TheVariants.{Weak, Dirty, Pieces, Greens, Database, All}
 use Rattle.cg_model.specs.Run.{Step}
-use Rattle.cg_model.specs.Shown.{order_lines, order_of, position_of, white_of}
+use Rattle.cg_model.specs.Shown.{order_of, position_of, white_of}
 use Rattle.cg_model.specs.Agreement.{through, Prefix}
 use Rattle.cg_model.specs.EveryRun.{EveryRunAgrees}
 use Rattle.cg_terms.specs.Terms.{AgreementGuarantees}

@@ -1,13 +1,12 @@
 -- The actions of the first places of the order: how many they are, and that later steps don't change them.
-use Rattle.std.proofs.Common.{◌≡◌, ℕ, ◌≤◌, List, [], ◌++◌, map, length, take, drop, Contains, sym, ap, ◌∙◌, subst, inl, inr, arith, length-append}
-use Rattle.std.proofs.lemmas.List.{map-append, length-map, take-take, take_at, take-append-drop, take-append-le, length-take-le}
+use Rattle.std.proofs.Common.{◌≡◌, ℕ, ◌≤◌, List, [], ◌++◌, length, take, drop, Contains, sym, ap, ◌∙◌, subst, inl, inr, arith, length-append}
+use Rattle.std.proofs.lemmas.List.{length-map, take-take, take_at, take-append-drop, take-append-le, length-take-le}
 use Rattle.cg_base.specs.declared.action_id.ActionId.{ActionId}
 use Rattle.cg_action.specs.declared.action.Action.{Action}
-use Rattle.cg_report.specs.declared.entry.Placed.{Placed}
 use Rattle.cg_model.specs.Run.{Step}
-use Rattle.cg_model.specs.Shown.{order_of, order_lines, made_names, made_actions, ordered_actions}
+use Rattle.cg_model.specs.Shown.{order_of, made_names, made_actions, ordered_actions}
 use Rattle.cg_model.specs.Agreement.{CreatorOrder}
-use Rattle.cg_base.specs.ElementLaws.{contains-none, take-there, last-of, flat-append}
+use Rattle.cg_base.specs.ElementLaws.{contains-none, take-there, last-of}
 use Rattle.cg_model.specs.MadeLaws.{AreMade, actions-more, actions-append, names-made}
 use Rattle.cg_model.specs.RunLaws.{order-append}
 

@@ -1,5 +1,5 @@
 -- Each reply that an event gives has the place of its action in the order behind the event, and they stand in the order of their places.
-use Rattle.std.proofs.Common.{◌≡◌, ℕ, zero, suc, ◌+◌, ◌-◌, ◌<◌, ◌≤◌, nat_lt, Bool, true, false, List, [], ◌∷◌, ◌++◌, map, fold, drop, length, Option, Some, None, IfSome, Contains, option_and_then, refl, sym, ap, subst, ◌∙◌, inl, inr, arith, append_assoc, length-append, is_some, if◌then◌else◌}
+use Rattle.std.proofs.Common.{◌≡◌, ℕ, suc, ◌+◌, ◌-◌, ◌<◌, ◌≤◌, nat_lt, Bool, true, false, List, [], ◌∷◌, ◌++◌, map, fold, drop, length, Option, Some, None, IfSome, Contains, option_and_then, refl, sym, ap, subst, ◌∙◌, inl, inr, arith, append_assoc, length-append, is_some, if◌then◌else◌}
 use Rattle.std.specs.Option.{option_map_or}
 use Rattle.std.proofs.lemmas.Bool.{cases_Bool, cases_lt, cond-true, cond-false, ltb-true, lt-ltb}
 use Rattle.cg_base.specs.declared.action_id.ActionId.{ActionId}

@@ -1,5 +1,5 @@
 -- A replica that is read is up: its position is what its lines told, and its database is what the order makes up to there.
-use Rattle.std.proofs.Common.{◌≡◌, ◌⊎◌, ℕ, ◌≤◌, List, [], ◌∷◌, ◌++◌, length, Some, None, refl, sym, ap, subst, ◌∙◌, inl, inr}
+use Rattle.std.proofs.Common.{◌≡◌, ◌⊎◌, ℕ, ◌≤◌, List, [], length, Some, None, sym, ap, subst, ◌∙◌, inl, inr}
 use Rattle.cg_db.specs.Apply.{fold_actions}
 use Rattle.cg_queue.specs.Queue.{green_count}
 use Rattle.cg_client.specs.Replica.{Replica}

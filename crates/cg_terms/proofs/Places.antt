@@ -1,15 +1,10 @@
 -- Lists: where an element stands, and lists in which no name stands twice.
-use Rattle.std.proofs.Common.{◌≡◌, ◌⊎◌, zero, suc, ◌<◌, List, [], ◌∷◌, ◌++◌, map, flat_map, length, Contains, refl, sym, ap, ◌∙◌, subst, inl, inr, arith, append_assoc}
-use Rattle.std.proofs.lemmas.List.{map-append}
-use Rattle.std.proofs.lemmas.List.Elements.{Contains-append_left, Contains-append_right, Contains-append_cases}
+use Rattle.std.proofs.Common.{◌≡◌, List, [], ◌∷◌, ◌++◌, map, Contains, refl, ap, subst, inl, inr}
+use Rattle.std.proofs.lemmas.List.Elements.{Contains-append_left, Contains-append_cases}
 use Rattle.cg_base.specs.declared.action_id.ActionId.{ActionId}
-use Rattle.cg_model.specs.Run.{Step}
-use Rattle.cg_model.specs.Shown.{order_of, order_lines}
-use Rattle.cg_model.specs.Agreement.{through}
 use Rattle.cg_model.specs.Fronts.{Front}
-use Rattle.cg_report.specs.declared.entry.Placed.{Placed}
 use Rattle.cg_terms.specs.Linearizable.{AllDiffer}
-use Rattle.cg_base.specs.ElementLaws.{contains-none, contains-here, contains-later, contains-cases, flat-append}
+use Rattle.cg_base.specs.ElementLaws.{contains-none, contains-here, contains-later, contains-cases}
 
 module _ {X : Type 0} where
   pub record IsAt (xs : List X) (x : X) : Type 0 where
