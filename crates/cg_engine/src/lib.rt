@@ -1,7 +1,7 @@
 //! The engine: one replica with its disk. One event is one step of the replica, and at most one commit.
 //!
 //! A `Replica` is what it is in memory, in whichever state; `Replica::step` is the table of states as one function,
-//! `replica_step` of `cg_model`, on the deliveries that are read in the bytes, or on a request; of a delivery whose bytes
+//! `replica_step` of `cg_states`, on the deliveries that are read in the bytes, or on a request; of a delivery whose bytes
 //! spell no message nothing comes.
 //!
 //! The one contract: `Engine::handle` is `replica_step` on what comes, and ends as the event's commit ends at the store

@@ -1,9 +1,9 @@
 //! The states of a member outside of a primary component and of one in an exchange: `NonPrim`, `ExchangeStates` while the
 //! members tell one another what they hold, `ExchangeActions` while they send one another what some of them lack.
 //!
-//! The one contract: a delivery makes of a state and a draft what the table's row of it says, `specs/NonPrim.antt`,
-//! `specs/ExchangeStates.antt` and `specs/ExchangeActions.antt`; what the table leaves out is ignored. The plan and what
-//! its end decides are those of `cg_plan` and `cg_knowledge`. An attempt that begins is left to `cg_construct`.
+//! The one contract: a delivery makes of a state and a draft what the table's rows of the state say (`cg_states`); what
+//! the table leaves out is ignored. The plan and what its end decides are those of `cg_plan` and `cg_knowledge`.
+//! An attempt that begins is left to `cg_construct`.
 #![tactic(auto)]
 
 mod exchange_actions;

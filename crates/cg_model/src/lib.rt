@@ -1,7 +1,7 @@
-//! One event at one replica, by the table of states; and the world of replicas with disks: whether an event is admitted,
-//! the step that the world takes with it, what the step shows, the runs of such steps, and what their steps agree on.
+//! The world of replicas with disks: whether an event is admitted, the step that the world takes with it, what the step
+//! shows, the runs of such steps, and what their steps agree on; and what holds of each event at one replica.
 //!
-//! Definitions, which contracts of the code above cite, with their laws. The table of states is `specs/ReplicaStep.antt`.
+//! Definitions, which contracts of the code above cite, with their laws. The table of states is below, in `cg_states`.
 //! An event keeps what holds of all that a replica holds, and the record of its commit leads from what stands on the disk
 //! to what the commit leaves (`specs/Recorded.antt`); so a replica follows its disk through events, crashes and recoveries
 //! (`specs/Following.antt`).

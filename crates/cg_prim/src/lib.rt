@@ -1,9 +1,9 @@
 //! The states of a member of a primary component: `RegPrim` in its regular configuration, `TransPrim` in its transitional
 //! one.
 //!
-//! The one contract: a delivery makes of a state and a draft what the table's row of it says, `specs/RegPrim.antt` and
-//! `specs/TransPrim.antt`; what the table leaves out is ignored. How a component comes about is left to `cg_construct`,
-//! and what comes of the step `Exchange` to `cg_exchange`.
+//! The one contract: a delivery makes of a state and a draft what the table's rows of the state say (`cg_states`); what
+//! the table leaves out is ignored. How a component comes about is left to `cg_construct`, and what comes of the
+//! step `Exchange` to `cg_exchange`.
 #![tactic(auto)]
 
 mod reg_prim;
