@@ -6,20 +6,13 @@ use Rattle.std.proofs.lemmas.List.{reverse-append, drop_more}
 use Rattle.cg_disk.specs.State.{SideState, is_unsynced, unsynced_from}
 use Rattle.cg_disk.specs.Undo.{ranges}
 use Rattle.cg_disk.specs.declared.written.Written.{Written}
-
-or_assoc : (a b c : Bool) → ((a || b) || c) ≡ (a || (b || c))
-or_assoc true b c = refl
-or_assoc false b c = refl
+use Rattle.cg_base.specs.BoolLaws.{or_false, or_assoc}
 
 or_comm : (a b : Bool) → (a || b) ≡ (b || a)
 or_comm true true = refl
 or_comm true false = refl
 or_comm false true = refl
 or_comm false false = refl
-
-or_none : (a : Bool) → (a || false) ≡ a
-or_none true = refl
-or_none false = refl
 
 abbrev in_write : Written → ℕ → Bool
 in_write x offset = nat_le x.offset offset && nat_lt offset (x.offset + x.count)
@@ -35,7 +28,7 @@ among_reverse (x ∷ xs) offset =
     ∙ among_both (reverse xs) (x ∷ []) offset
     ∙ ap (λ b. b || is_unsynced (ranges (x ∷ [])) offset) (among_reverse xs offset)
     ∙ or_comm (is_unsynced (ranges xs) offset) (is_unsynced (ranges (x ∷ [])) offset)
-    ∙ ap (λ b. b || is_unsynced (ranges xs) offset) (or_none (in_write x offset))
+    ∙ ap (λ b. b || is_unsynced (ranges xs) offset) (or_false (in_write x offset))
 
 pub count_step : (s : SideState) (offset : ℕ) (seen : List ℕ) → offset < length seen → unsynced_from s offset (drop offset seen) ≡ (if is_unsynced s.unsynced offset then 1 else 0) + unsynced_from s (offset + 1) (drop (offset + 1) seen)
 count_step s offset seen inside = ap (unsynced_from s offset) (drop_more seen offset 0 inside) ∙ ap (λ n. (if is_unsynced s.unsynced offset then 1 else 0) + unsynced_from s n (drop (offset + 1) seen)) (let e : suc offset ≡ offset + 1 = omega arith in e)

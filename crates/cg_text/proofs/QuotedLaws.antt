@@ -1,8 +1,8 @@
 -- A text between quotes is read as it is printed, and no other way.
-use Rattle.std.proofs.Common.{◌≡◌, ℕ, ◌≤◌, Bool, true, false, cond, eqb, List, [], ◌∷◌, ◌++◌, length, Option, Some, None, refl, sym, ap, append_assoc, ◌&&◌, ◌||◌, not, ◌⊎◌, inl, inr}
+use Rattle.std.proofs.Common.{◌≡◌, ℕ, ◌≤◌, Bool, true, false, cond, eqb, List, [], ◌∷◌, ◌++◌, length, Option, Some, None, refl, sym, ap, append_assoc, ◌&&◌, not, ◌⊎◌, inl, inr}
 use Rattle.std.specs.Prelude.{flat_map, nat_le}
 use Rattle.std.specs.Str.{IsUtf8, is_utf8}
-use Rattle.std.proofs.lemmas.Bool.{eqb-true, leb-true, le-leb}
+use Rattle.std.proofs.lemmas.Bool.{eqb-true, leb-true, le-leb, or_parts, not-false}
 use Rattle.std.proofs.lemmas.List.Concat.{flat_map-cons}
 use Rattle.std.proofs.lemmas.Option.{cond_some, none-some, same_Some, option_and_then_some}
 use Rattle.std.proofs.lemmas.Str.{IsUtf8-from_is_utf8, is_utf8-from_IsUtf8}
@@ -27,12 +27,8 @@ rest_of-cons byte text = rw flat_map-cons (append_assoc (escaped byte) (flat_map
 plain_again : (byte : ℕ) (rest text : List ℕ) → is_special byte ≡ false → is_control byte ≡ false → text_up_to_quote false rest ≡ Some text
     → text_up_to_quote false (byte ∷ rest) ≡ Some (byte ∷ text)
 plain_again byte rest text plain printed e =
-    let tests = neither (eqb byte 34) (eqb byte 92) plain in
+    let tests = or_parts (eqb byte 34) (eqb byte 92) plain in
     rw (tests.0, tests.1, printed, e) refl
-  where
-    neither : (a b : Bool) → (a || b) ≡ false → (a ≡ false) × (b ≡ false)
-    neither true b f = absurd cc
-    neither false b f = (refl, f)
 
 -- a byte behind its backslash
 special_again : (byte : ℕ) (rest text : List ℕ) → is_special byte ≡ true → text_up_to_quote false rest ≡ Some text → text_up_to_quote false (92 ∷ byte ∷ rest) ≡ Some (byte ∷ text)
@@ -99,10 +95,6 @@ Spelled-plain byte text rest no_quote no_backslash printed s = record {
 Spelled-escaped : (text rest : List ℕ) → SpelledFrom true text rest → Spelled text (92 ∷ rest)
 Spelled-escaped [] rest s = absurd s
 Spelled-escaped (byte ∷ text) rest s = rw s.2 (Spelled-special byte text s.1 s.0 s.3)
-
-not-false : (b : Bool) → not b ≡ false → b ≡ true
-not-false true e = refl
-not-false false e = absurd cc
 
 -- what is known of the bytes behind the first
 abbrev IsFoundBehind : List ℕ → Type 0

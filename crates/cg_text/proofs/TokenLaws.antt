@@ -6,16 +6,12 @@ use Rattle.cg_text.specs.Quoted.{is_special, escaped, quoted}
 use Rattle.cg_text.specs.Tokens.{is_blank, is_separator, is_mark, tokens_from, tokens, InWord, InText, is_word, ends_word}
 use Rattle.cg_text.proofs.Scanning.{tokens-word, word-goes_on, word-stops, word-ends, text-goes_on, text-stops, tokens-text}
 use Rattle.cg_text.proofs.QuotedLaws.{rest_of, rest_of-cons}
+use Rattle.std.proofs.lemmas.Bool.{or_parts}
 
 -- a first part that holds, and the others
 both : (a b : Bool) → (not a && b) ≡ true → (a ≡ false) × (b ≡ true)
 both true b e = absurd cc
 both false b e = (refl, e)
-
--- neither of two holds
-neither : (a b : Bool) → (a || b) ≡ false → (a ≡ false) × (b ≡ false)
-neither true b f = absurd cc
-neither false b f = (refl, f)
 
 -- no mark is neither a blank nor a separator nor a quote
 record IsNoMark (byte : ℕ) : Type 0 where
@@ -25,8 +21,8 @@ record IsNoMark (byte : ℕ) : Type 0 where
 
 no_mark : (byte : ℕ) → is_mark byte ≡ false → IsNoMark byte
 no_mark byte e =
-    let a = neither (is_blank byte || is_separator byte) (eqb byte 34) e in
-    let b = neither (is_blank byte) (is_separator byte) a.0 in
+    let a = or_parts (is_blank byte || is_separator byte) (eqb byte 34) e in
+    let b = or_parts (is_blank byte) (is_separator byte) a.0 in
     record { no_blank = b.0; no_separator = b.1; no_quote = a.1 }
 
 -- ---- words
@@ -57,7 +53,7 @@ escaped_behind front byte rest = by_special (is_special byte) refl
     by_special : (b : Bool) → is_special byte ≡ b → tokens_from (InText front false) (escaped byte ++ rest) ≡ tokens_from (InText (front ++ escaped byte) false) rest
     by_special true e = rw e (text-goes_on front false 92 (byte ∷ rest) refl ∙ text-goes_on (front ++ 92 ∷ []) true byte rest refl ∙ ap (λ (t : List ℕ). tokens_from (InText t false) rest) (append_assoc front (92 ∷ []) (byte ∷ [])))
     by_special false e =
-        let tests = neither (eqb byte 34) (eqb byte 92) e in
+        let tests = or_parts (eqb byte 34) (eqb byte 92) e in
         rw e (text-goes_on front false byte rest tests.0 ∙ ap (λ (b : Bool). tokens_from (InText (front ++ byte ∷ []) b) rest) tests.1)
 
 text_behind : (front text rest : List ℕ) → tokens_from (InText front false) (rest_of text ++ rest) ≡ (front ++ rest_of text) ∷ tokens rest
