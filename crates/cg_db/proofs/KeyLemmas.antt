@@ -21,6 +21,7 @@ use Rattle.cg_db.specs.EntryLaws.{found_all}
 use Rattle.cg_db.specs.AscendingLaws.{entry, Ascends-filter}
 use Rattle.cg_db.proofs.MapLemmas.{some, same_at_each_key, length-put}
 use Rattle.cg_db.proofs.ViewLemmas.{Ascends-of_entries, value_of-of_entries, same_flipped}
+use Rattle.cg_base.specs.ListLaws.{drop-at}
 
 -- ---- texts as a database, in which each has one and the same value
 
@@ -181,13 +182,8 @@ found_is es p found left all so_far none every =
 
 -- ---- one entry more is copied
 
-at_index : (es : List (List ℕ × Value)) (i : ℕ) (x : List ℕ × Value) → slice_get es i ≡ Some x → drop i es ≡ x ∷ drop (suc i) es
-at_index [] i x e = absurd (cc)
-at_index (y ∷ es) zero x e = let is : y ≡ x = cc in ap (λ z. z ∷ es) is
-at_index (y ∷ es) (suc i) x e = at_index es i x e
-
 pub copied_one : (es : List (List ℕ × Value)) (i : ℕ) (k : List ℕ) (v : Value) (old new : List DbEntry) (key : List ℕ) (w : Value) → slice_get es i ≡ Some (k, v) → key ≡ k → w ≡ v
     → new ≡ put old key w → old ≡ of_entries (drop (i + 1) es) → new ≡ of_entries (drop i es)
 copied_one es i k v old new key w at same_key same_value made before =
-    let whole = at_index es i (k, v) at in
+    let whole = drop-at es i (k, v) at in
     rw (whole, made, before, same_key, same_value, add-one) refl

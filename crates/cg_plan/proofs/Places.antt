@@ -14,6 +14,7 @@ use Rattle.cg_plan.specs.Progress.{PlanProgress, turn_of}
 use Rattle.cg_plan.specs.PlanLaws.{length-items, length-turn, size-filled, items-cons}
 use Rattle.cg_plan.specs.Following.{begun}
 use Rattle.cg_plan.specs.Parts.{IsFilled, size_of, item_behind}
+use Rattle.cg_base.specs.ListLaws.{slice_get-front}
 
 -- ---- the parts from a place on
 
@@ -57,11 +58,6 @@ items-none : items_of_plan [] ≡ []
 unfolding items_of_plan
 items-none = refl
 
-get-append-left : {X : Type 0} (xs ys : List X) (k : ℕ) → k < length xs → slice_get (xs ++ ys) k ≡ slice_get xs k
-get-append-left [] ys k lt = absurd (omega arith)
-get-append-left (x ∷ xs) ys zero lt = refl
-get-append-left (x ∷ xs) ys (suc k) lt = get-append-left xs ys k (omega arith)
-
 get-append-right : {X : Type 0} (xs ys : List X) (k : ℕ) → slice_get (xs ++ ys) (length xs + k) ≡ slice_get ys k
 get-append-right [] ys k = let same : 0 + k ≡ k = omega arith in rw same refl
 get-append-right (x ∷ xs) ys k =
@@ -95,7 +91,7 @@ pub item-some : (turns more : List SentPart) (turn : SentPart) (current made : �
     → slice_get (items_of_plan turns) (items_before turns current made) ≡ Some (sent_by turn.sender (item_behind turn.part made))
 item-some turns more turn current made here filled few =
     let first = get-map (sent_by turn.sender) (items_of turn.part) made (item_behind turn.part made) (get-items turn.part made filled few) in
-    get-place turns current made ∙ rw (here, items-cons turn more) (get-append-left (items_of_turn turn) (items_of_plan more) made (omega (arith, length-turn turn)) ∙ first)
+    get-place turns current made ∙ rw (here, items-cons turn more) (slice_get-front (items_of_turn turn) (items_of_plan more) made (omega (arith, length-turn turn)) ∙ first)
 
 -- ---- what holds of the parts from a place on
 

@@ -6,9 +6,10 @@ use Rattle.cg_journal.specs.Records.{header, number_at}
 use Rattle.cg_journal.specs.Bodies.{bodies_at, AreWithin}
 use Rattle.cg_journal.specs.declared.bodies.Span.{Span}
 use Rattle.cg_journal.proofs.Reading.{reads_as}
-use Rattle.cg_journal.proofs.Parsing.{IsReadTo, was_false, too_short, other_header, read_unfit, read_more, read_all}
+use Rattle.cg_journal.proofs.Parsing.{IsReadTo, too_short, other_header, read_unfit, read_more, read_all}
 use Rattle.cg_journal.proofs.Spans.{bodies-push, within-push, body-behind}
 use Rattle.cg_journal.proofs.parse.find.Goals as goal
+use Rattle.std.proofs.lemmas.Bool.{not-true}
 
 pub returns-then-side-lt9-clause-read : goal.returns-then-side-lt9-clause-read
 returns-then-side-lt9-clause-read c = too_short c.args.side.now c.if-side-lt9.true
@@ -40,7 +41,7 @@ loop-gate-preserved c =
     )
 
 pub returns-then-ne-clause-read : goal.returns-then-ne-clause-read
-returns-then-ne-clause-read c = other_header c.args.side.now (was_false (bytes_eq (take 8 c.args.side.now) header) (sym c.ne.ensures ∙ c.if-ne.true))
+returns-then-ne-clause-read c = other_header c.args.side.now (not-true (bytes_eq (take 8 c.args.side.now) header) (sym c.ne.ensures ∙ c.if-ne.true))
 
 pub returns-clause-read : goal.returns-clause-read
 returns-clause-read c =
