@@ -1,12 +1,12 @@
 -- The names that may be yellow: those of reds, each once.
 use Rattle.std.proofs.Common.{◌≡◌, List, [], ◌∷◌, ◌++◌, filter, fold, true, false, not, refl, sym, ◌∙◌, inl, inr, append_assoc}
 use Rattle.std.proofs.lemmas.List.{append-nil}
-use Rattle.std.proofs.lemmas.Bool.{cases_Bool, and_parts}
+use Rattle.std.proofs.lemmas.Bool.{cases_Bool, and_parts, not-true}
 use Rattle.cg_base.specs.declared.action_id.ActionId.{ActionId}
 use Rattle.cg_base.specs.Ids.{same_id, has_name}
 use Rattle.cg_queue.specs.Answers.{AreReds}
 use Rattle.cg_queue.specs.Distinct.{is_distinct}
-use Rattle.cg_queue.specs.DistinctLaws.{apart-back, names-apart, no-name, distinct-behind}
+use Rattle.cg_queue.specs.DistinctLaws.{apart-back, names-apart, distinct-behind}
 use Rattle.cg_queue.specs.Queue.{QueueView, names_of}
 use Rattle.cg_states.specs.PlanEnd.{with_name, usable_names}
 
@@ -66,7 +66,7 @@ filter-from q list (id ∷ ids) new distinct =
     let parts = and_parts (not (has_name ids id)) (is_distinct ids) distinct in
     elim (cases_Bool (has_name (names_of q.reds) id)) [
       | inl red ↦ rw (red, new.0)
-          (filter-from q (list ++ id ∷ []) ids (new-behind list ids id new.1 (no-name (has_name ids id) parts.0)) parts.1
+          (filter-from q (list ++ id ∷ []) ids (new-behind list ids id new.1 (not-true (has_name ids id) parts.0)) parts.1
           ∙ append_assoc list (id ∷ []) (filter (has_name (names_of q.reds)) ids))
       | inr other ↦ rw other (filter-from q list ids new.1 parts.1)
     ]

@@ -1,14 +1,12 @@
 -- The names of the reds ascend.
-use Rattle.std.proofs.Common.{◌≡◌, ℕ, zero, suc, ◌+◌, ◌<◌, ◌≤◌, ◌||◌, Bool, true, false, List, [], ◌∷◌, ◌++◌, refl, sym, ap, subst, ◌∙◌, arith}
-use Rattle.std.specs.Prelude.{nat_lt}
-use Rattle.std.proofs.lemmas.Bool.{eq-eqb, lt-ltb}
+use Rattle.std.proofs.Common.{◌≡◌, ℕ, zero, suc, ◌+◌, ◌<◌, ◌≤◌, List, [], ◌∷◌, ◌++◌, refl, sym, ap, subst, ◌∙◌, arith}
 use Rattle.cg_base.specs.declared.action_id.ActionId.{ActionId}
-use Rattle.cg_base.specs.Ids.{id_before}
 use Rattle.cg_action.specs.declared.action.Action.{Action}
 use Rattle.cg_queue.specs.declared.red.Red.{Red}
 use Rattle.cg_queue.specs.Queue.{names_of}
 use Rattle.cg_queue.specs.Body.{Stretch, actions_in, reds_from}
 use Rattle.cg_queue.specs.Shown.{IsAhead, NamesAscend}
+use Rattle.cg_base.specs.IdLaws.{before-index, before-creator}
 
 -- the first of the names is of a later creator
 abbrev BeginsAbove : ℕ → List ActionId → Type 0
@@ -18,16 +16,6 @@ BeginsAbove c (id ∷ ids) = c < id.creator
 BeginsAbove-less : (c d : ℕ) (ids : List ActionId) → c ≤ d → BeginsAbove d ids → BeginsAbove c ids
 BeginsAbove-less c d [] le above = tt
 BeginsAbove-less c d (id ∷ ids) le above = omega (arith, le, above)
-
-or_true : (x : Bool) → (x || true) ≡ true
-or_true true = refl
-or_true false = refl
-
-before-creator : (a b : ActionId) → a.creator < b.creator → id_before a b ≡ true
-before-creator a b lt = rw (lt-ltb a.creator b.creator lt) refl
-
-before-index : (a b : ActionId) → a.creator ≡ b.creator → a.index < b.index → id_before a b ≡ true
-before-index a b same lt = rw (same, lt-ltb a.index b.index lt, eq-eqb b.creator b.creator refl) (or_true (nat_lt b.creator b.creator))
 
 names-append : (xs ys : List Action) → names_of (xs ++ ys) ≡ names_of xs ++ names_of ys
 names-append [] ys = refl

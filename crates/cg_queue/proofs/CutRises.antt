@@ -10,6 +10,7 @@ use Rattle.cg_base.specs.CutLaws.{index_in-raise}
 use Rattle.cg_queue.specs.Body.{is_above, AreKnown}
 use Rattle.cg_base.specs.IdLaws.{same_id-false, same_id-true}
 use Rattle.cg_queue.specs.MarkLaws.{is_above-true}
+use Rattle.cg_base.specs.BoolLaws.{or_true, or_false}
 
 module _ (cut : List ActionId) (id : ActionId) (is_cut : IsCut cut) where
   pub raise-same : (p : ℕ) → id.creator ≡ p → index_in (raise cut id) p ≡ max (index_in cut p) id.index
@@ -27,11 +28,7 @@ module _ (cut : List ActionId) (id : ActionId) (is_cut : IsCut cut) where
 -- ---- names
 
 pub names-more : (ids : List ActionId) (id x : ActionId) → has_name (ids ++ id ∷ []) x ≡ (has_name ids x || same_id x id)
-names-more [] id x = or_none (same_id x id)
-  where
-    or_none : (b : Bool) → (b || false) ≡ b
-    or_none true = refl
-    or_none false = refl
+names-more [] id x = or_false (same_id x id)
 names-more (y ∷ ids) id x = ap (λ b. same_id x y || b) (names-more ids id x) ∙ or_inner (same_id x y) (has_name ids x) (same_id x id)
   where
     or_inner : (a b c : Bool) → (a || (b || c)) ≡ ((a || b) || c)
@@ -40,18 +37,10 @@ names-more (y ∷ ids) id x = ap (λ b. same_id x y || b) (names-more ids id x) 
 
 -- a name that is another one than that at the end
 pub names-other : (ids : List ActionId) (id x : ActionId) → (x.creator ≢ id.creator) ⊎ (x.index ≢ id.index) → has_name ids x ≡ has_name (ids ++ id ∷ []) x
-names-other ids id x apart = sym (names-more ids id x ∙ ap (λ b. has_name ids x || b) (same_id-false x id apart) ∙ or_none (has_name ids x))
-  where
-    or_none : (b : Bool) → (b || false) ≡ b
-    or_none true = refl
-    or_none false = refl
+names-other ids id x apart = sym (names-more ids id x ∙ ap (λ b. has_name ids x || b) (same_id-false x id apart) ∙ or_false (has_name ids x))
 
 pub names-last : (ids : List ActionId) (id x : ActionId) → x.creator ≡ id.creator → x.index ≡ id.index → true ≡ has_name (ids ++ id ∷ []) x
 names-last ids id x creators indexes = sym (names-more ids id x ∙ ap (λ b. has_name ids x || b) (same_id-true x id creators indexes) ∙ or_true (has_name ids x))
-  where
-    or_true : (b : Bool) → (b || true) ≡ true
-    or_true true = refl
-    or_true false = refl
 
 -- ---- names that are known
 

@@ -14,6 +14,7 @@ use Rattle.cg_queue.specs.Body.{Parts, seen, Stretch, Follows, positions_of, act
 use Rattle.cg_base.specs.IdLaws.{same_id-false, same_id-true}
 use Rattle.cg_queue.proofs.RedLemmas.{is_named, names-all}
 use Rattle.cg_queue.proofs.Soundness.{low_of, stretches_of, has_lane}
+use Rattle.std.proofs.lemmas.Option.{same_Some}
 
 -- the action of that name
 abbrev pub named : ActionId → List Action → Option Action
@@ -87,9 +88,6 @@ pub record StandsAt (id : ActionId) (greens : List Action) (position spot : ℕ)
   pub behind : position ≤ spot
   pub found : named id greens ≡ slice_get greens (spot - position)
 
-same_some : (x y : ℕ) → Some x ≡ Some y → x ≡ y
-same_some x y e = cc
-
 stands-later : (id : ActionId) (a : Action) (greens : List Action) (position spot : ℕ) → StandsAt id greens (suc position) spot → (a.id.creator ≢ id.creator) ⊎ (a.id.index ≢ id.index) → StandsAt id (a ∷ greens) position spot
 stands-later id a greens position spot rest apart =
     let le = rest.behind in
@@ -98,7 +96,7 @@ stands-later id a greens position spot rest apart =
 
 stands-here : (id : ActionId) (a : Action) (greens : List Action) (position spot : ℕ) → Some position ≡ Some spot → a.id.creator ≡ id.creator → a.id.index ≡ id.index → StandsAt id (a ∷ greens) position spot
 stands-here id a greens position spot is_first creators indexes =
-    let here : position ≡ spot = same_some position spot is_first in
+    let here : position ≡ spot = same_Some position spot is_first in
     let none : spot - position ≡ 0 = omega arith in
     record { behind = omega arith; found = named-first id a greens creators indexes ∙ ap (slice_get (a ∷ greens)) (sym none) }
 

@@ -1,7 +1,6 @@
 -- Lists of names in which none stands twice, gone through from the front.
-use Rattle.std.proofs.Common.{◌≡◌, ℕ, zero, suc, length, take, drop, slice_index_or, ◌<◌, ◌≤◌, List, [], ◌∷◌, ◌++◌, cond, max, Bool, true, false, not, refl, sym, ap, ◌∙◌, subst, arith, inl, inr}
-use Rattle.std.specs.Prelude.{◌&&◌}
-use Rattle.std.proofs.lemmas.Bool.{cases_eq, cases_Bool, eq-eqb, ne_eqb, or_from}
+use Rattle.std.proofs.Common.{◌≡◌, ℕ, zero, suc, length, take, drop, slice_index_or, ◌<◌, ◌≤◌, List, [], ◌∷◌, ◌++◌, cond, max, true, false, not, refl, sym, ap, ◌∙◌, subst, arith, inl, inr}
+use Rattle.std.proofs.lemmas.Bool.{cases_eq, cases_Bool, eq-eqb, ne_eqb, or_from, and_right}
 use Rattle.cg_base.specs.declared.action_id.ActionId.{ActionId}
 use Rattle.cg_base.specs.Ids.{same_id, has_name}
 use Rattle.cg_base.specs.IdLaws.{same_id-is, same_id-back}
@@ -62,12 +61,8 @@ pub not_distinct : (ids rest : List ActionId) (id : ActionId) → has_name ids i
 not_distinct [] rest id known = absurd (let clash : false ≡ true = known in cc)
 not_distinct (x ∷ ids) rest id known = elim (cases_Bool (same_id id x)) [
   | inl here ↦ rw (stands-in ids rest id x (same_id-back id x here)) refl
-  | inr other ↦ none (not (has_name (ids ++ id ∷ rest) x)) (is_distinct (ids ++ id ∷ rest)) (not_distinct ids rest id (rw other at known))
+  | inr other ↦ and_right (not (has_name (ids ++ id ∷ rest) x)) (is_distinct (ids ++ id ∷ rest)) (not_distinct ids rest id (rw other at known))
 ]
-  where
-    none : (a b : Bool) → b ≡ false → (a && b) ≡ false
-    none true b e = e
-    none false b e = refl
 
 -- the list around the name at an index
 pub placed : (i : ℕ) (ids : List ActionId) (id : ActionId) → i < length ids → id ≡ slice_index_or ids i id → take i ids ++ id ∷ drop (suc i) ids ≡ ids

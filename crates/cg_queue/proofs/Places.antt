@@ -1,21 +1,12 @@
 -- Reds by their place among all.
-use Rattle.std.proofs.Common.{◌≡◌, ℕ, zero, suc, ◌+◌, ◌-◌, ◌≤◌, ◌<◌, List, [], ◌∷◌, ◌++◌, length, length-append, refl, sym, ap, ◌∙◌, arith}
+use Rattle.std.proofs.Common.{◌≡◌, ℕ, zero, suc, ◌+◌, ◌-◌, ◌≤◌, ◌<◌, List, length, length-append, sym, ap, ◌∙◌, arith}
 use Rattle.std.specs.Prelude.{slice_get, None}
 use Rattle.std.proofs.lemmas.List.{length-map}
 use Rattle.cg_action.specs.declared.action.Action.{Action}
 use Rattle.cg_queue.specs.declared.red.Red.{Red}
 use Rattle.cg_queue.specs.Body.{actions_in, reds_from}
 use Rattle.cg_queue.proofs.Soundness.{reds-step, reds-end}
-
-slice_get-front : {X : Type 0} (xs ys : List X) (i : ℕ) → i < length xs → slice_get (xs ++ ys) i ≡ slice_get xs i
-slice_get-front [] ys i lt = absurd (omega arith)
-slice_get-front (x ∷ xs) ys zero lt = refl
-slice_get-front (x ∷ xs) ys (suc i) lt = slice_get-front xs ys i (omega (arith, lt))
-
-slice_get-behind : {X : Type 0} (xs ys : List X) (i : ℕ) → length xs ≤ i → slice_get (xs ++ ys) i ≡ slice_get ys (i - length xs)
-slice_get-behind [] ys i le = let e : i - 0 ≡ i = omega arith in rw e refl
-slice_get-behind (x ∷ xs) ys zero le = absurd (omega (arith, le))
-slice_get-behind (x ∷ xs) ys (suc i) le = let e : suc i - suc (length xs) ≡ i - length xs = omega arith in slice_get-behind xs ys i (omega (arith, le)) ∙ rw e refl
+use Rattle.cg_base.specs.ListLaws.{slice_get-behind, slice_get-front}
 
 length-actions : (reds : List Red) → length (actions_in reds) ≡ length reds
 length-actions reds = length-map reds (λ r. r.action)

@@ -12,19 +12,15 @@ use Rattle.cg_action.specs.declared.action.Action.{Action}
 use Rattle.cg_queue.specs.declared.red.Red.{Red}
 use Rattle.cg_queue.specs.Queue.{names_of}
 use Rattle.cg_queue.specs.Body.{Parts, seen, Stretch, Flagged, IsLane, actions_in, reds_from, flag_of, unless}
-use Rattle.cg_queue.proofs.RowLemmas.{filter-join}
 use Rattle.cg_queue.proofs.FlagLemmas.{Flagged-above}
 use Rattle.cg_queue.proofs.Soundness.{drop-end, reds-step}
+use Rattle.std.proofs.lemmas.List.Elements.{filter-append}
 
 -- those of the names that aren't yellow
 abbrev pub plain : List ActionId → List ActionId → List ActionId
 plain yellow ids = filter (λ id. not (has_name yellow id)) ids
 
 -- ---- no name is yellow
-
-pub no_names : (ids : List ActionId) → length ids ≡ 0 → ids ≡ []
-no_names [] none = refl
-no_names (id ∷ ids) none = absurd (omega arith)
 
 plain-all : (ids : List ActionId) → plain [] ids ≡ ids
 plain-all [] = refl
@@ -111,4 +107,4 @@ plain-step yellow lanes slot lt =
     let rest = reds_from lanes (32 - suc slot) (suc slot) in
     ap (λ xs. plain yellow (names_of xs)) (reds-step lanes slot lt)
     ∙ ap (plain yellow) (map-append name (actions_in (lanes slot)) rest)
-    ∙ filter-join (λ id. not (has_name yellow id)) (names_of (actions_in (lanes slot))) (names_of rest)
+    ∙ filter-append (λ id. not (has_name yellow id)) (names_of (actions_in (lanes slot))) (names_of rest)

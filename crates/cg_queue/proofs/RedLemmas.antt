@@ -1,6 +1,6 @@
 -- The reds of all creators in a row, by name.
-use Rattle.std.proofs.Common.{◌≡◌, ℕ, zero, suc, ◌+◌, ◌<◌, ◌≤◌, ◌≢◌, ◌⊎◌, ◌||◌, List, [], ◌∷◌, ◌++◌, length, drop, Bool, not, true, false, refl, sym, ap, ◌∙◌, arith, inl, inr, append_assoc}
-use Rattle.std.proofs.lemmas.Bool.{cases_eq, cases_Bool, eq-eqb, ne_eqb, lt-ltb, le-ltb, or_cases}
+use Rattle.std.proofs.Common.{◌≡◌, ℕ, zero, suc, ◌+◌, ◌<◌, ◌≤◌, ◌≢◌, ◌⊎◌, List, [], ◌∷◌, ◌++◌, length, drop, not, true, false, refl, sym, ap, ◌∙◌, arith, inl, inr, append_assoc}
+use Rattle.std.proofs.lemmas.Bool.{cases_eq, cases_Bool, eq-eqb, ne_eqb, le-ltb, or_cases, or_right}
 use Rattle.cg_base.specs.declared.action_id.ActionId.{ActionId}
 use Rattle.cg_base.specs.Ids.{same_id, id_before, has_name}
 use Rattle.cg_action.specs.declared.action.Action.{Action}
@@ -8,8 +8,10 @@ use Rattle.cg_queue.specs.declared.red.Red.{Red}
 use Rattle.cg_queue.specs.Lanes.{with_lane}
 use Rattle.cg_queue.specs.Queue.{with_red, without_action, names_of}
 use Rattle.cg_queue.specs.Body.{Stretch, actions_in, reds_from, all_reds}
-use Rattle.cg_queue.proofs.RowLemmas.{with_lane-same, with_lane-other, filter-join, map-more}
-use Rattle.cg_base.specs.IdLaws.{same_id-false, same_id-true}
+use Rattle.cg_queue.proofs.RowLemmas.{with_lane-same, with_lane-other}
+use Rattle.cg_base.specs.IdLaws.{same_id-false, same_id-true, before-creator}
+use Rattle.std.proofs.lemmas.List.{map_push}
+use Rattle.std.proofs.lemmas.List.Elements.{filter-append}
 
 -- ---- other rows don't matter
 
@@ -29,9 +31,6 @@ id_before-false : (id other : ActionId) → (other.creator < id.creator) ⊎ ((o
 id_before-false id other (inl lower) = rw (le-ltb id.creator other.creator (omega arith), ne_eqb id.creator other.creator (λ e. omega arith))
 id_before-false id other (inr same) = rw (le-ltb id.creator other.creator (let e = same.0 in omega arith), eq-eqb id.creator other.creator (sym (same.0)), le-ltb id.index other.index same.1)
 
-id_before-true : (id other : ActionId) → id.creator < other.creator → id_before id other ≡ true
-id_before-true id other lt = rw (lt-ltb id.creator other.creator lt)
-
 -- an action goes behind a row that comes before it
 with_red-behind : (reds : List Red) (others : List Action) (a : Action) (c from : ℕ) → Stretch c from reds → (c < a.id.creator) ⊎ ((c ≡ a.id.creator) × (from + length reds ≤ a.id.index))
     → with_red (actions_in reds ++ others) a ≡ actions_in reds ++ with_red others a
@@ -50,7 +49,7 @@ with_red-behind (r ∷ reds) others a c from stretch before =
 -- an action goes before a row of a later creator
 with_red-row : (reds : List Red) (others : List Action) (a : Action) (c from : ℕ) → Stretch c from reds → a.id.creator < c → with_red others a ≡ a ∷ others → with_red (actions_in reds ++ others) a ≡ a ∷ (actions_in reds ++ others)
 with_red-row [] others a c from stretch lt rest = rest
-with_red-row (r ∷ reds) others a c from stretch lt rest = let creator : r.action.id.creator ≡ c = stretch.0 in rw (id_before-true a.id r.action.id (omega arith))
+with_red-row (r ∷ reds) others a c from stretch lt rest = let creator : r.action.id.creator ≡ c = stretch.0 in rw (before-creator a.id r.action.id (omega arith))
 
 module _ (lanes : ℕ → List Red) (low : ℕ → ℕ) (stretches : (k : ℕ) → k < 32 → Stretch (suc k) (low k) (lanes k)) where
   -- an action goes before the rows that come behind it
@@ -70,7 +69,7 @@ module _ (lanes : ℕ → List Red) (low : ℕ → ℕ) (stretches : (k : ℕ) �
         let row = lanes first in
         let new = with_lane lanes slot (lanes slot ++ r ∷ []) in
         let here : actions_in (new first) ≡ actions_in row ++ r.action ∷ [] =
-        ap actions_in (with_lane-same lanes slot (lanes slot ++ r ∷ []) first same ∙ ap (λ k. lanes k ++ r ∷ []) (sym same)) ∙ map-more (λ x. x.action) row r in
+        ap actions_in (with_lane-same lanes slot (lanes slot ++ r ∷ []) first same ∙ ap (λ k. lanes k ++ r ∷ []) (sym same)) ∙ map_push (λ x. x.action) row r in
         let rest : reds_from new count (suc first) ≡ reds_from lanes count (suc first) =
         reds_from-other lanes new count (suc first) (λ k above under. ap actions_in (with_lane-other lanes slot (lanes slot ++ r ∷ []) k (λ e. omega arith))) in
         let own : r.action.id.index ≡ low first + length row = rw (← same) at index in
@@ -120,7 +119,7 @@ module _ (lanes : ℕ → List Red) (low : ℕ → ℕ) (stretches : (k : ℕ) �
   reds_from-dropped (suc count) first slot id within creator index =
       let new = with_lane lanes slot (drop 1 (lanes slot)) in
       let rest = reds_from-dropped count (suc first) slot id (omega arith) creator index in
-      let whole = filter-join (λ a. not (same_id a.id id)) (actions_in (lanes first)) (reds_from lanes count (suc first)) in
+      let whole = filter-append (λ a. not (same_id a.id id)) (actions_in (lanes first)) (reds_from lanes count (suc first)) in
       elim (cases_eq first slot) [
         | inl same ↦
             let at_place : id.index ≡ low first = rw (← same) at index in
@@ -154,14 +153,10 @@ names-join [] ys id there = inr there
 names-join (x ∷ xs) ys id there = elim (or_cases (same_id id x.id) (has_name (names_of (xs ++ ys)) id) there) [
   | inl own ↦ inl (rw own)
   | inr later ↦ elim (names-join xs ys id later) [
-    | inl here ↦ inl (or_second (same_id id x.id) (has_name (names_of xs) id) here)
+    | inl here ↦ inl (or_right (same_id id x.id) (has_name (names_of xs) id) here)
     | inr behind ↦ inr behind
   ]
 ]
-  where
-    or_second : (a b : Bool) → b ≡ true → (a || b) ≡ true
-    or_second true b e = refl
-    or_second false b e = e
 
 never : false ≡ true → ⊥
 never e = cc
@@ -202,17 +197,13 @@ module _ (lanes : ℕ → List Red) (low : ℕ → ℕ) (stretches : (k : ℕ) �
 
 -- ---- a name that stands in a row is one of a red
 
-or_second : (a b : Bool) → b ≡ true → (a || b) ≡ true
-or_second true b e = refl
-or_second false b e = e
-
 names-row : (reds : List Red) (id : ActionId) (c from i : ℕ) → Stretch c from reds → id.creator ≡ c → id.index ≡ from + i → i < length reds → has_name (names_of (actions_in reds)) id ≡ true
 names-row [] id c from i stretch creator index lt = absurd (omega arith)
 names-row (r ∷ reds) id c from zero stretch creator index lt =
     let own : r.action.id.index ≡ from = stretch.1 in
     rw (same_id-true id r.action.id (creator ∙ sym stretch.0) (omega arith))
 names-row (r ∷ reds) id c from (suc i) stretch creator index lt =
-    or_second (same_id id r.action.id) (has_name (names_of (actions_in reds)) id) (names-row reds id c (suc from) i stretch.2 creator (omega arith) (omega arith))
+    or_right (same_id id r.action.id) (has_name (names_of (actions_in reds)) id) (names-row reds id c (suc from) i stretch.2 creator (omega arith) (omega arith))
 
 names-left : (xs ys : List Action) (id : ActionId) → has_name (names_of xs) id ≡ true → has_name (names_of (xs ++ ys)) id ≡ true
 names-left [] ys id there = absurd (never there)
@@ -223,7 +214,7 @@ names-left (x ∷ xs) ys id there = elim (cases_Bool (same_id id x.id)) [
 
 names-right : (xs ys : List Action) (id : ActionId) → has_name (names_of ys) id ≡ true → has_name (names_of (xs ++ ys)) id ≡ true
 names-right [] ys id there = there
-names-right (x ∷ xs) ys id there = or_second (same_id id x.id) (has_name (names_of (xs ++ ys)) id) (names-right xs ys id there)
+names-right (x ∷ xs) ys id there = or_right (same_id id x.id) (has_name (names_of (xs ++ ys)) id) (names-right xs ys id there)
 
 module _ (lanes : ℕ → List Red) (low : ℕ → ℕ) (stretches : (k : ℕ) → k < 32 → Stretch (suc k) (low k) (lanes k)) where
   names-from : (count first slot i : ℕ) (id : ActionId) → first + count ≤ 32 → first ≤ slot → slot < first + count → id.creator ≡ suc slot → id.index ≡ low slot + i → i < length (lanes slot)

@@ -7,8 +7,9 @@ use Rattle.cg_base.specs.Cuts.{index_in}
 use Rattle.cg_action.specs.declared.action.Action.{Action}
 use Rattle.cg_queue.specs.declared.red.Red.{Red}
 use Rattle.cg_queue.specs.Body.{Parts, Stretch, IsSound, actions_in, reds_from, all_reds}
-use Rattle.cg_queue.proofs.RowLemmas.{filter-join, append-nothing}
+use Rattle.cg_queue.proofs.RowLemmas.{append-nothing}
 use Rattle.cg_queue.proofs.Soundness.{low_of, stretches_of}
+use Rattle.std.proofs.lemmas.List.Elements.{filter-append}
 
 abbrev pub is_behind : ℕ → ℕ → Action → Bool
 is_behind creator index a = (a.id.creator == creator) && nat_lt index a.id.index
@@ -41,7 +42,7 @@ module _ (lanes : ℕ → List Red) (low : ℕ → ℕ) (stretches : (k : ℕ) �
   unfolding reds_from
   rows-others zero first within le = refl
   rows-others (suc count) first within le =
-      filter-join (is_behind creator index) (actions_in (lanes first)) (reds_from lanes count (suc first))
+      filter-append (is_behind creator index) (actions_in (lanes first)) (reds_from lanes count (suc first))
       ∙ ap (λ xs. xs ++ filter (is_behind creator index) (reds_from lanes count (suc first))) (row-others creator index (suc first) (low first) (lanes first) (stretches first (omega arith)) (λ e. omega arith))
       ∙ rows-others count (suc first) (omega arith) (omega arith)
 
@@ -52,7 +53,7 @@ module _ (lanes : ℕ → List Red) (low : ℕ → ℕ) (stretches : (k : ℕ) �
   rows-above (suc count) first slot i within le lt own at =
       let test = is_behind creator index in
       let rest = reds_from lanes count (suc first) in
-      filter-join test (actions_in (lanes first)) rest ∙ elim (cases_eq first slot) [
+      filter-append test (actions_in (lanes first)) rest ∙ elim (cases_eq first slot) [
         | inl same ↦
             let stretch : Stretch creator (low slot) (lanes slot) = rw (← own) (stretches slot (omega arith)) in
             ap (λ k. filter test (actions_in (lanes k)) ++ filter test rest) same

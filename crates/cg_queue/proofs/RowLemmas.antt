@@ -110,22 +110,11 @@ fold-more f a [] i d lt = absurd (omega arith)
 fold-more f a (x ∷ xs) zero d lt = refl
 fold-more f a (x ∷ xs) (suc i) d lt = fold-more f (f a x) xs i d (omega arith)
 
-pub length-more : {X : Type 0} (xs : List X) (x : X) → length (xs ++ x ∷ []) ≡ suc (length xs)
-length-more [] x = refl
-length-more (y ∷ xs) x = ap suc (length-more xs x)
-
 pub filter-more : {X : Type 0} (test : X → Bool) (xs : List X) (x : X) → test x ≡ true → filter test (xs ++ x ∷ []) ≡ filter test xs ++ x ∷ []
 filter-more test [] x passes = rw passes
 filter-more test (y ∷ xs) x passes = elim (cases_Bool (test y)) [
   | inl keeps ↦ rw keeps (ap (λ ys. y ∷ ys) (filter-more test xs x passes))
   | inr fails ↦ rw fails (filter-more test xs x passes)
-]
-
-pub filter-join : {X : Type 0} (test : X → Bool) (xs ys : List X) → filter test (xs ++ ys) ≡ filter test xs ++ filter test ys
-filter-join test [] ys = refl
-filter-join test (x ∷ xs) ys = elim (cases_Bool (test x)) [
-  | inl passes ↦ rw passes (ap (λ zs. x ∷ zs) (filter-join test xs ys))
-  | inr fails ↦ rw fails (filter-join test xs ys)
 ]
 
 pub filter-twice : {X : Type 0} (test : X → Bool) (xs : List X) → filter test (filter test xs) ≡ filter test xs
@@ -134,10 +123,6 @@ filter-twice test (x ∷ xs) = elim (cases_Bool (test x)) [
   | inl passes ↦ rw (passes, passes) (ap (λ ys. x ∷ ys) (filter-twice test xs))
   | inr fails ↦ rw fails (filter-twice test xs)
 ]
-
-pub map-more : {X Y : Type 0} (f : X → Y) (xs : List X) (x : X) → map f (xs ++ x ∷ []) ≡ map f xs ++ f x ∷ []
-map-more f [] x = refl
-map-more f (y ∷ xs) x = ap (λ ys. f y ∷ ys) (map-more f xs x)
 
 pub same_length : {X Y : Type 0} (f : X → Y) (xs ys : List X) → map f xs ≡ map f ys → length xs ≡ length ys
 same_length {X} {Y} f xs ys same = sym (long xs) ∙ ap length same ∙ long ys

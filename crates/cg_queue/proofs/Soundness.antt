@@ -15,11 +15,12 @@ use Rattle.cg_queue.specs.Queue.{with_yellow, placed_red, placed_green, with_red
 use Rattle.cg_queue.specs.Body.{Parts, seen, all_reds, reds_from, no_parts, BeginsWell, actions_in, is_above, flag_of, Stretch, Follows, positions_of, Flagged, IsLane, IsSound, lane_of, added_red, with_name, flagged, added_green, cleared, dropped, dropped_from}
 use Rattle.cg_queue.specs.DistinctLaws.{distinct-behind, distinct-kept}
 use Rattle.cg_queue.specs.MarkLaws.{yellow-added, is_above-true}
-use Rattle.cg_queue.proofs.RowLemmas.{with_lane-same, with_lane-other, same_lanes, length-more, filter-more, filter-twice}
+use Rattle.cg_queue.proofs.RowLemmas.{with_lane-same, with_lane-other, same_lanes, filter-more, filter-twice}
 use Rattle.cg_queue.proofs.CutRises.{raise-same, raise-other, raise-rises, AreKnown-rise, AreKnown-more, AreKnown-filter, names-unknown, names-above, above-raised}
 use Rattle.cg_queue.proofs.StretchLemmas.{Stretch-more, Stretch-less, Stretch-marked, length-marked, actions_in-marked, marked-last, length-less, Follows-more, Follows-others, positions_of-more, positions_of-others}
 use Rattle.cg_queue.proofs.FlagLemmas.{Flagged-others, Flagged-marked, Flagged-append, Flagged-less, Flagged-above}
 use Rattle.cg_queue.proofs.RedLemmas.{all_reds-added, all_reds-dropped, all_reds-same}
+use Rattle.cg_base.specs.ListLaws.{length-more}
 
 -- the index at which a row of reds begins
 abbrev pub low_of : Parts → ℕ → ℕ

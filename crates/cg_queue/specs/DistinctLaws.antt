@@ -1,6 +1,6 @@
 -- Of lists of names in which none stands twice.
 use Rattle.std.proofs.Common.{◌≡◌, List, [], ◌∷◌, ◌++◌, filter, Bool, true, false, not, refl, sym, ap, ◌∙◌, inl, inr}
-use Rattle.std.proofs.lemmas.Bool.{cases_Bool, and_parts, and_from, or_from}
+use Rattle.std.proofs.lemmas.Bool.{cases_Bool, and_parts, and_from, or_from, not-true}
 use Rattle.cg_base.specs.declared.action_id.ActionId.{ActionId}
 use Rattle.cg_base.specs.Ids.{same_id, has_name}
 use Rattle.cg_base.specs.IdLaws.{same_id-back}
@@ -20,10 +20,6 @@ names-apart (y ∷ ids) id x apart none = elim (cases_Bool (same_id x y)) [
   | inr other ↦ rw other (names-apart ids id x apart (rw other at none))
 ]
 
-pub no-name : (b : Bool) → not b ≡ true → b ≡ false
-no-name true e = absurd (let clash : false ≡ true = e in cc)
-no-name false e = refl
-
 -- a new name behind distinct ones
 pub distinct-behind : (ids : List ActionId) (id : ActionId) → is_distinct ids ≡ true → has_name ids id ≡ false →
     is_distinct (ids ++ id ∷ []) ≡ true
@@ -34,7 +30,7 @@ distinct-behind (x ∷ ids) id distinct new =
       | inl here ↦ absurd (let clash : true ≡ false = rw here at new in cc)
       | inr other ↦
           and_from (not (has_name (ids ++ id ∷ []) x)) (is_distinct (ids ++ id ∷ []))
-          (ap not (names-apart ids id x (apart-back id x other) (no-name (has_name ids x) parts.0))) (distinct-behind ids
+          (ap not (names-apart ids id x (apart-back id x other) (not-true (has_name ids x) parts.0))) (distinct-behind ids
           id parts.1 (rw other at new))
     ]
 
@@ -60,6 +56,6 @@ distinct-kept test (id ∷ ids) distinct =
     let rest = distinct-kept test ids parts.1 in
     elim (cases_Bool (test id)) [
       | inl stays ↦ rw stays (and_from (not (has_name (filter test ids) id)) (is_distinct (filter test ids))
-          (ap not (names-kept test ids id (no-name (has_name ids id) parts.0))) rest)
+          (ap not (names-kept test ids id (not-true (has_name ids id) parts.0))) rest)
       | inr goes ↦ rw goes rest
     ]

@@ -6,8 +6,9 @@ use Rattle.cg_base.specs.IdRuns.{names_above}
 use Rattle.cg_queue.specs.Body.{parts_of}
 use Rattle.cg_queue.proofs.RowLemmas.{append-nothing}
 use Rattle.cg_queue.proofs.Soundness.{OnOk_with}
-use Rattle.cg_queue.proofs.PlainReds.{no_names, lane-names, plain-listed, plain-begins, plain-ends}
+use Rattle.cg_queue.proofs.PlainReds.{lane-names, plain-listed, plain-begins, plain-ends}
 use Rattle.cg_queue.proofs.queue.add_plain_names.Goals as goal
+use Rattle.std.proofs.lemmas.List.{nil_from_length}
 
 pub returns-then-is_empty : goal.returns-then-is_empty
 returns-then-is_empty c =
@@ -19,7 +20,7 @@ returns-then-is_empty c =
     let is_high = c.get-high.ensures.value ∙ ap (index_in b.red_cut) creator in
     OnOk_with c.push_run.result c.push_run.ensures.ok (λ put.
     put ∙ ap (λ ids. c.args.ids.now ++ ids)
-    (ap (names_above c.get-low.result c.get-high.result) creator ∙ lane-names b slot c.get-low.result c.get-high.result c.requires.lane is_low is_high (no_names b.yellow none)))
+    (ap (names_above c.get-low.result c.get-high.result) creator ∙ lane-names b slot c.get-low.result c.get-high.result c.requires.lane is_low is_high (nil_from_length b.yellow none)))
 
 pub loop-index-init : goal.loop-index-init
 loop-index-init c =
