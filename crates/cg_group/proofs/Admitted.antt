@@ -1,8 +1,7 @@
 -- What a call that isn't refused may rely on.
-use Rattle.std.proofs.Common.{◌≡◌, ℕ, ◌<◌, ◌≤◌, ◌⊎◌, Bool, true, false, ◌&&◌, not, List, [], ◌∷◌, Option, Some, None, refl, sym, ap, ◌∙◌, arith, eq-eqb, eqb-true, inl, inr, ⊎_elim, fold, map, find, max, is_some, option_map}
+use Rattle.std.proofs.Common.{◌≡◌, ℕ, ◌<◌, ◌≤◌, ◌⊎◌, Bool, true, false, ◌&&◌, not, List, [], ◌∷◌, Option, Some, None, refl, sym, ap, ◌∙◌, arith, eq-eqb, eqb-true, inl, inr, ⊎_elim, fold, map, find, max, is_some}
 use Rattle.std.specs.Prelude.{◌==◌}
-use Rattle.std.specs.List.{list_any}
-use Rattle.std.proofs.lemmas.Bool.{cases_Bool, cond-true, cond-false, eqb-false, and_from, or_cases, or_left, or_right, not_from_false, not-false, not-true, cases_lt}
+use Rattle.std.proofs.lemmas.Bool.{cases_Bool, cond-false, eqb-false, and_from, or_cases, or_left, or_right, not_from_false, not-false, not-true, cases_lt}
 use Rattle.cg_base.specs.Lists.{first_some, Each}
 use Rattle.cg_base.specs.Sets.{has, same_set, is_within}
 use Rattle.cg_group.specs.declared.reason.Reason.{Reason}
@@ -10,7 +9,10 @@ use Rattle.cg_group.specs.State.{Standing, GroupState, standing_of, phase_of, de
 use Rattle.cg_group.specs.Refusals.{any_of, not_up, not_regular, not_one_configuration, still_regular, not_together, is_together, left_together}
 use Rattle.cg_group.specs.Events.{furthest}
 use Rattle.cg_base.specs.EachLaws.{Each-at, Each-has}
-use Rattle.cg_group.specs.RefusalLaws.{first_none, refuse_none}
+use Rattle.cg_group.specs.RefusalLaws.{refuse_none}
+use Rattle.cg_base.specs.MemberLaws.{list_any_in}
+use Rattle.cg_base.specs.OptionLaws.{option_map_none, first_none}
+use Rattle.cg_base.specs.FindLaws.{none_found}
 
 first_none_each : {X : Type 0} (test : ℕ → Option X) (set : List ℕ) → first_some (map test set) ≡ None → Each (λ q. test q ≡ None) set
 first_none_each test [] e = tt
@@ -18,16 +20,6 @@ first_none_each test (p ∷ set) e = let both = first_none (test p) (map test se
 
 pub any_none : (test : ℕ → Option Reason) (set : List ℕ) → any_of test set ≡ None → (q : ℕ) → has set q ≡ true → test q ≡ None
 any_none test set e q m = Each-at (λ q. test q ≡ None) set q (first_none_each test set e) m
-
-find_none : {X : Type 0} (test : X → Bool) (xs : List X) → find test xs ≡ None → Each (λ x. test x ≡ false) xs
-find_none test [] e = tt
-find_none test (x ∷ xs) e = ⊎_elim
-    (λ y. absurd (let clash : Some x ≡ None = sym (cond-true (test x) (Some x) (find test xs) y) ∙ e in cc))
-    (λ n. (n, find_none test xs (sym (cond-false (test x) (Some x) (find test xs) n) ∙ e))) (cases_Bool (test x))
-
-option_map_none : {X Y : Type 0} (f : X → Y) (o : Option X) → option_map f o ≡ None → o ≡ None
-option_map_none f None e = refl
-option_map_none f (Some x) e = absurd cc
 
 -- the greatest of some numbers is at least each, and one of them or the first
 greatest_from : (f : ℕ → ℕ) (set : List ℕ) (a : ℕ) →
@@ -55,12 +47,6 @@ is_within-more t (p ∷ s) e = and_from (has t p) (is_within s t) e.0 (is_within
 pub same_set_refl : (s : List ℕ) → same_set s s ≡ true
 same_set_refl s = let w = is_within-more s s (Each-has s) in and_from (is_within s s) (is_within s s) w w
 
-pub list_any_in : (t : ℕ → Bool) (set : List ℕ) (p : ℕ) → has set p ≡ true → t p ≡ true → list_any t set ≡ true
-list_any_in t [] p m e = absurd (let clash : false ≡ true = m in cc)
-list_any_in t (q ∷ set) p m e = ⊎_elim
-    (λ here. or_left (t q) (list_any t set) (ap t (eqb-true q p here) ∙ e))
-    (λ there. or_right (t q) (list_any t set) (list_any_in t set p there e)) (or_cases (q == p) (has set p) m)
-
 module _ {M : Type 0} where
   pub up_standing : (g : GroupState M) (p : ℕ) → not_up g p ≡ None → (s : Standing M) × (standing_of g p ≡ Some s)
   up_standing g p e = by_option (standing_of g p) refl (not-false (is_up g p) (refuse_none (not (is_up g p)) (Reason.NotUp p) e))
@@ -83,7 +69,7 @@ module _ {M : Type 0} where
   one_configuration g (r ∷ set) e p q m n = alike p m ∙ sym (alike q n)
     where
       each : Each (λ q. not (regular_in (phase_of g q) == regular_in (phase_of g r)) ≡ false) set
-      each = find_none (λ q. not (regular_in (phase_of g q) == regular_in (phase_of g r))) set
+      each = none_found (λ q. not (regular_in (phase_of g q) == regular_in (phase_of g r))) set
           (option_map_none Reason.NotOneConfiguration (find (λ q. not (regular_in (phase_of g q) == regular_in (phase_of g r))) set) e)
 
       alike : (p : ℕ) → has (r ∷ set) p ≡ true → regular_in (phase_of g p) ≡ regular_in (phase_of g r)
@@ -107,7 +93,7 @@ module _ {M : Type 0} where
       let test : ℕ → Bool = λ q. is_together g set q && not (has set q) && not (has left q) in
       let none : test q ≡ false =
       Each-at (λ q. test q ≡ false) (map (λ s. s.id) g.replicas) q
-      (find_none test (map (λ s. s.id) g.replicas) (option_map_none Reason.NotTogether (find test (map (λ s. s.id) g.replicas)) e)) (found_in g.replicas q s up) in
+      (none_found test (map (λ s. s.id) g.replicas) (option_map_none Reason.NotTogether (find test (map (λ s. s.id) g.replicas)) e)) (found_in g.replicas q s up) in
       let some : test q ≡ true =
       and_from (is_together g set q && not (has set q)) (not (has left q))
       (and_from (is_together g set q) (not (has set q)) (list_any_in (λ p. left_together (phase_of g p) (phase_of g q)) set p m same) (not_from_false (has set q) out))

@@ -24,9 +24,9 @@ use Rattle.cg_group.proofs.Closing.{closed}
 use Rattle.cg_group.proofs.Opening.{opened}
 use Rattle.cg_group.proofs.Diaries.{Booked, AreMessages-at, noted_parting, Booked-now, stay_in-now, Booked-ended, stay_in-ended, noted_begin, Booked-begun, stay_in-begun, handed_to-map}
 use Rattle.cg_group.proofs.Sound.{Sound, picture, same_picture, regular_phase, ticked}
-use Rattle.cg_group.specs.RefusalLaws.{first_none}
 use Rattle.cg_group.proofs.Admitted.{any_none, regular_home, not_regular_now, one_configuration, same_set_refl, all_together, furthest_is}
 use Rattle.cg_group.proofs.Handing.{Sends-fewer}
+use Rattle.cg_base.specs.OptionLaws.{first_none}
 
 some_member : (set : List ℕ) → empty_set set ≡ None → (p : ℕ) × (has set p ≡ true)
 some_member [] e = absurd cc

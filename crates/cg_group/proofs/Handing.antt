@@ -22,8 +22,9 @@ use Rattle.cg_group.proofs.Delivering.{delivered}
 use Rattle.cg_group.proofs.Closing.{closed}
 use Rattle.cg_group.proofs.Diaries.{Booked, AreMessages-at, noted_regular, Booked-now, stay_in-now, Booked-ended, stay_in-ended}
 use Rattle.cg_group.proofs.Sound.{Sound, Sends, picture, same_picture, regular_phase, ticked}
-use Rattle.cg_group.specs.RefusalLaws.{first_none, refuse_none}
+use Rattle.cg_group.specs.RefusalLaws.{refuse_none}
 use Rattle.cg_group.proofs.Admitted.{up_standing, regular_home}
+use Rattle.cg_base.specs.OptionLaws.{first_none}
 
 module _ {M : Type 0} where
   -- what was sent and ordered, when some are regular no longer

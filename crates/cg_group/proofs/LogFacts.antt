@@ -1,5 +1,5 @@
 -- A configuration in memory, after a message more and after a receipt.
-use Rattle.std.proofs.Common.{◌+◌, ◌-◌, ◌&&◌, one-add, ◌≡◌, ℕ, zero, suc, pred, ◌<◌, ◌≤◌, Bool, true, false, List, [], ◌∷◌, ◌++◌, length, Option, Some, None, refl, sym, ap, ap₂, ◌∙◌, arith, map, option_map, get_or, ⊎_elim}
+use Rattle.std.proofs.Common.{◌+◌, ◌-◌, one-add, ◌≡◌, ℕ, zero, suc, pred, ◌<◌, ◌≤◌, Bool, true, false, List, [], ◌∷◌, ◌++◌, length, Option, Some, None, refl, sym, ap, ap₂, ◌∙◌, arith, map, option_map, get_or, ⊎_elim}
 use Rattle.std.specs.Prelude.{◌==◌}
 use Rattle.std.proofs.Math.ListN.{set}
 use Rattle.std.proofs.lemmas.List.{map-append}
@@ -15,6 +15,8 @@ use Rattle.cg_group.specs.Events.{with_message, with_receipt}
 use Rattle.cg_group.specs.Ready.{all_received, ready_in}
 use Rattle.cg_group.specs.Refusals.{sender_at}
 use Rattle.cg_group.specs.Logs.{sent_of, configuration_of}
+use Rattle.cg_group.specs.LookupLaws.{changed_at-zero}
+use Rattle.cg_base.specs.EachLaws.{list_all_same}
 
 module _ {X Y : Type 0} where
   pub at_place-map : (f : X → Y) (xs : List X) (place : ℕ) → at_place (map f xs) place ≡ option_map f (at_place xs place)
@@ -42,10 +44,6 @@ module _ {X Y : Type 0} where
       ∙ ap (λ z. f x ∷ z) (map-changed_at_same f change e xs (pred place)))
       (cases_Bool (place == 1))
 
-pub list_all_same : {X : Type 0} (t u : X → Bool) → ((x : X) → t x ≡ u x) → (xs : List X) → list_all t xs ≡ list_all u xs
-list_all_same t u e [] = refl
-list_all_same t u e (x ∷ xs) = ap₂ (λ a b. a && b) (e x) (list_all_same t u e xs)
-
 module _ {X : Type 0} where
   -- writing the changed element is the change
   pub set-changed_at : (change : X → X) (xs : List X) (i : ℕ) (d : X) → i < length xs → set xs i (change (get_or xs i d)) ≡ changed_at change xs (suc i)
@@ -61,10 +59,6 @@ module _ {X : Type 0} where
   changed_at-beyond change (x ∷ xs) place lt =
       cond-false (place == 1) (change x ∷ xs) (x ∷ changed_at change xs (pred place)) (ne_eqb place 1 (λ e. omega arith))
       ∙ ap (λ z. x ∷ z) (changed_at-beyond change xs (pred place) (omega arith))
-
-  pub changed_at-none : (change : X → X) (xs : List X) → changed_at change xs 0 ≡ xs
-  changed_at-none change [] = refl
-  changed_at-none change (x ∷ xs) = ap (λ z. x ∷ z) (changed_at-none change xs)
 
 module _ {M : Type 0} where
   -- a member more among those who have received, and so many of them in turn
@@ -99,7 +93,7 @@ module _ {M : Type 0} where
 
   pub with_receipt-none : (c : Configuration M) (p : ℕ) → c ≡ with_receipt c p 0
   unfolding with_receipt
-  with_receipt-none c p = ap (λ (r : List (List ℕ)). record c { received = r }) (sym (changed_at-none (λ set. with_member set p) c.received))
+  with_receipt-none c p = ap (λ (r : List (List ℕ)). record c { received = r }) (sym (changed_at-zero (λ set. with_member set p) c.received))
 
   pub has_received-at : (members : List ℕ) (ordered : List (OrderedMessage M)) (p place : ℕ) →
       has_received (configuration_of members ordered) p place ≡ option_map_or (λ x. has x.received p) (at_place ordered place) false

@@ -9,7 +9,8 @@ use Rattle.std.specs.List.{slice_get}
 use Rattle.cg_base.specs.Lists.{at_place}
 use Rattle.cg_group.specs.State.{Configuration, changed_at}
 use Rattle.cg_group.specs.Logs.{LogView, configurations_of, RoomFor}
-use Rattle.cg_group.proofs.LogFacts.{set-changed_at, changed_at-none, changed_at-beyond}
+use Rattle.cg_group.proofs.LogFacts.{set-changed_at, changed_at-beyond}
+use Rattle.cg_group.specs.LookupLaws.{changed_at-zero}
 
 -- a number to which one is added by a test
 one-more : (b : Bool) (n : ℕ) → b ≡ true → (if b then 1 else 0) + n ≡ suc n
@@ -32,7 +33,7 @@ module _ {M : Type 0} where
       ∙ ap (changed_at change (configurations_of logs)) place
 
   pub written_nowhere : (change : Configuration M → Configuration M) (logs : List (LogView M)) (conf : ℕ) → conf ≡ 0 → configurations_of logs ≡ changed_at change (configurations_of logs) conf
-  written_nowhere change logs conf e = sym (ap (changed_at change (configurations_of logs)) e ∙ changed_at-none change (configurations_of logs))
+  written_nowhere change logs conf e = sym (ap (changed_at change (configurations_of logs)) e ∙ changed_at-zero change (configurations_of logs))
 
   pub written_beyond : (change : Configuration M → Configuration M) (logs : List (LogView M)) (conf : ℕ) → length logs < conf → configurations_of logs ≡ changed_at change (configurations_of logs) conf
   written_beyond change logs conf lt = sym (changed_at-beyond change (configurations_of logs) conf (rw length-map lt))

@@ -9,14 +9,10 @@ use Rattle.cg_group.specs.State.{Configuration, Standing, GroupState, standing_o
 use Rattle.cg_group.specs.Events.{order, order_from, order_all, receive_all}
 use Rattle.cg_group.specs.Logs.{LogView, configurations_of, group_of, with_all_receipts}
 use Rattle.cg_group.specs.Rosters.{found, waits_of, conf_of, is_sender, senders_of, regulars_of, IsRoster}
-use Rattle.cg_group.specs.LookupLaws.{standing_of-set}
+use Rattle.cg_group.specs.LookupLaws.{standing_of-set, changed_at-zero}
 use Rattle.cg_group.proofs.OrderFacts.{times, found_id, order_all-times, received_everywhere}
 use Rattle.cg_group.proofs.RosterFacts.{found_at}
-
--- no place is 0
-changed_nowhere : {X : Type 0} (f : X → X) (xs : List X) → changed_at f xs 0 ≡ xs
-changed_nowhere f [] = refl
-changed_nowhere f (x ∷ xs) = ap (λ z. x ∷ z) (changed_nowhere f xs)
+use Rattle.std.proofs.lemmas.List.{nil_from_length}
 
 module _ {M : Type 0} where
   -- ---- who has no message that waits has none after another's were ordered
@@ -61,10 +57,6 @@ module _ {M : Type 0} where
   abbrev AreIdle : GroupState M → List (Standing M) → Type 0
   AreIdle g left = (i : ℕ) (d : Standing M) → i < length left → length (get_or left i d).unordered ≡ 0 → waits_of g.replicas (get_or left i d).id ≡ []
 
-  no_more : (xs : List M) → length xs ≡ 0 → xs ≡ []
-  no_more [] e = refl
-  no_more (x ∷ xs) e = absurd (omega (arith, e))
-
   fold-senders : (left : List (Standing M)) (g : GroupState M) → AreIdle g left → fold order_all g (senders_of left) ≡ fold order_all g (regulars_of left)
   fold-senders [] g idle = refl
   fold-senders (s ∷ left) g idle = ⊎_elim
@@ -99,7 +91,7 @@ module _ {M : Type 0} where
   pub senders-order : (logs : List (LogView M)) (replicas : List (Standing M)) → IsRoster replicas →
       fold order_all (group_of logs replicas) (senders_of replicas) ≡ fold order_all (group_of logs replicas) (regulars_of replicas)
   senders-order logs replicas roster = fold-senders replicas (group_of logs replicas)
-      (λ i d lt none. ap (λ o. option_map_or (λ (s : Standing M). s.unordered) o []) (found_at replicas 1 i d roster.ascends lt) ∙ no_more (get_or replicas i d).unordered none)
+      (λ i d lt none. ap (λ o. option_map_or (λ (s : Standing M). s.unordered) o []) (found_at replicas 1 i d roster.ascends lt) ∙ nil_from_length (get_or replicas i d).unordered none)
 
   -- ---- each regular replica receives
 
@@ -110,7 +102,7 @@ module _ {M : Type 0} where
   received-next logs after replicas left s there changed = ⊎_elim
       (λ alone.
       let none : configurations_of after ≡ configurations_of logs =
-      changed ∙ ap (changed_at (λ c. with_all_receipts c s.id) (configurations_of logs)) (eqb-true (regular_in s.phase) 0 alone) ∙ changed_nowhere (λ c. with_all_receipts c s.id) (configurations_of logs) in
+      changed ∙ ap (changed_at (λ c. with_all_receipts c s.id) (configurations_of logs)) (eqb-true (regular_in s.phase) 0 alone) ∙ changed_at-zero (λ c. with_all_receipts c s.id) (configurations_of logs) in
       ap (λ (z : List (Configuration M)). let h : GroupState M = record { configurations = z; replicas = replicas } in fold receive_all h (regulars_of left)) none
       ∙ sym (ap (λ z. fold receive_all (group_of logs replicas) (map (λ (s : Standing M). s.id) z)) (filter-drops (λ (s : Standing M). not (regular_in s.phase == 0)) s left (ap not alone))))
       (λ regular.

@@ -1,15 +1,14 @@
 -- The first places of a configuration, which every member has received, and those that one of them has.
 use Rattle.std.proofs.Common.{◌≡◌, ℕ, zero, suc, ◌+◌, ◌-◌, ◌<◌, ◌≤◌, Bool, true, false, not, ◌&&◌, List, [], ◌∷◌, ◌++◌, length, Option, Some, None, refl, sym, ap, subst, ◌∙◌, arith, fold, find, option_map, inl, inr, ⊎_elim, ◌⊎◌, eq-eqb}
-use Rattle.std.specs.Prelude.{◌==◌}
 use Rattle.std.proofs.Math.ListN.{set, get_or}
 use Rattle.std.specs.List.{slice_get, prefix_len}
 use Rattle.std.specs.Option.{option_map_or}
-use Rattle.std.proofs.lemmas.Bool.{cases_lt, cases_eq, cond-false, ne_eqb, or_left}
+use Rattle.std.proofs.lemmas.Bool.{cases_lt, cases_eq, cond-false, ne_eqb}
 use Rattle.std.proofs.lemmas.List.{length-append, length-set}
 use Rattle.std.proofs.lemmas.Option.{slice_get-get_or}
 use Rattle.cg_base.specs.Lists.{at_place, above_up_to}
 use Rattle.cg_base.specs.Sets.{IsSet, Ascends, has, with_member, is_within}
-use Rattle.cg_base.specs.SetLaws.{with_member-same, with_member-later, has-within, has-with_member, is_within-has, is_within-from}
+use Rattle.cg_base.specs.SetLaws.{with_member-same, with_member-later, has-within, is_within-has}
 use Rattle.cg_group.specs.declared.ordered_message.OrderedMessage.{OrderedMessage}
 use Rattle.cg_group.specs.State.{Configuration, has_received}
 use Rattle.cg_group.specs.Ready.{all_received}
@@ -18,6 +17,7 @@ use Rattle.cg_group.specs.Logs.{IsSettled, AreFronts, configuration_of}
 use Rattle.cg_group.proofs.LogFacts.{above_up_to-next, above_up_to-none, all_received-at_place, has_received-at, prefix-goes_on, at_place-map}
 use Rattle.cg_group.specs.PlaceLaws.{at_place-within}
 use Rattle.cg_group.proofs.OrderFacts.{changed_at-here, changed_at-itself}
+use Rattle.cg_base.specs.MemberLaws.{is_within_more}
 
 -- a member that is there already
 pub with_member-there : (low : ℕ) (set : List ℕ) (p : ℕ) → Ascends low set → has set p ≡ true → with_member set p ≡ set
@@ -33,11 +33,6 @@ with_member-there low (q ∷ set) p ascends there = ⊎_elim
 pub has_itself : (p : ℕ) → has (p ∷ []) p ≡ true
 has_itself p = rw (eq-eqb p p refl) refl
 
--- one more who has received leaves the members among them
-pub is_within-more : (s t : List ℕ) (p : ℕ) → is_within s t ≡ true → is_within s (with_member t p) ≡ true
-is_within-more s t p within =
-    is_within-from s (with_member t p) (λ q there. has-with_member t p q ∙ or_left (has t q) (p == q) (is_within-has s t q within there))
-
 -- what isn't lacked isn't missing
 pub and_not : (a b : Bool) → b ≡ true → (a && not b) ≡ false
 and_not true b e = ap not e
@@ -51,11 +46,8 @@ find-skip test (suc k) to none = ⊎_elim
     (λ (lt : k < to).
     find-skip test k to (λ place pos le. none place pos (omega arith))
     ∙ ap (find test) (above_up_to-next k to lt) ∙ cond-false (test (suc k)) (Some (suc k)) (find test (above_up_to (suc k) to)) (none (suc k) (omega arith) (omega arith)))
-    (λ (le : to ≤ k). find-skip test k to (λ place pos le. none place pos (omega arith)) ∙ ap (find test) (nothing k to le ∙ sym (nothing (suc k) to (omega arith))))
+    (λ (le : to ≤ k). find-skip test k to (λ place pos le. none place pos (omega arith)) ∙ ap (find test) (above_up_to-none k to le ∙ sym (above_up_to-none (suc k) to (omega arith))))
     (cases_lt k to)
-  where
-    nothing : (low high : ℕ) → high ≤ low → above_up_to low high ≡ []
-    nothing low high le = above_up_to-none low high le
 
 -- what holds of each place before
 pub prefix-skip : (test : ℕ → Bool) (low mid high : ℕ) → low ≤ mid → mid ≤ high → ((place : ℕ) → low < place → place ≤ mid → test place ≡ true) →
@@ -141,7 +133,7 @@ module _ {M : Type 0} where
         (λ w.
         let old = settled.received i (get_or ordered k d) below w.1 in
         subst (λ (x : OrderedMessage M). IsSet x.received × (is_within members x.received ≡ true)) w.0
-        (is_set, ap (is_within members) value ∙ is_within-more members (get_or ordered k d).received p old.1))
+        (is_set, ap (is_within members) value ∙ is_within_more members (get_or ordered k d).received p old.1))
         (slice_get-written ordered k i y z d lt e);
   }
 

@@ -1,9 +1,9 @@
 -- The law: each call keeps the invariant, and the invariant gives virtual synchrony.
-use Rattle.std.proofs.Common.{◌≡◌, ℕ, zero, suc, ◌+◌, ◌-◌, ◌<◌, ◌≤◌, ◌⊎◌, Bool, true, false, not, List, [], ◌∷◌, ◌++◌, length, Option, Some, None, refl, sym, ap, subst, ◌∙◌, arith, eq-eqb, eqb-true, inl, inr, ⊎_elim, filter, append-nil, is_some}
+use Rattle.std.proofs.Common.{◌≡◌, ℕ, zero, suc, ◌+◌, ◌-◌, ◌<◌, ◌≤◌, ◌⊎◌, Bool, true, false, not, List, [], ◌∷◌, ◌++◌, length, Option, Some, None, refl, sym, ap, subst, ◌∙◌, arith, eqb-true, inl, inr, ⊎_elim, filter, append-nil, is_some}
 use Rattle.std.specs.Prelude.{◌==◌}
 use Rattle.std.specs.List.{list_any}
 use Rattle.std.specs.Option.{option_map_or}
-use Rattle.std.proofs.lemmas.Bool.{cases_eq, cases_lt, cond-true, or_left, or_right, or_cases, cond_both}
+use Rattle.std.proofs.lemmas.Bool.{cases_lt, cond-true, or_left, or_right, or_cases, cond_both}
 use Rattle.cg_base.specs.Lists.{above_up_to, count_up, at_place, Each}
 use Rattle.cg_base.specs.Sets.{has}
 use Rattle.cg_group.specs.declared.delivery.Delivery.{Delivery}
@@ -21,10 +21,11 @@ use Rattle.cg_group.specs.LookupLaws.{same_both}
 use Rattle.cg_group.proofs.Diaries.{Booked}
 use Rattle.cg_group.proofs.Sound.{Sound, picture, same_picture, Sound-ticked}
 use Rattle.cg_group.proofs.Ordering.{order_sound, receive_sound, gather_sound, send_sound}
-use Rattle.cg_group.specs.RefusalLaws.{first_none}
-use Rattle.cg_group.proofs.Admitted.{list_any_in}
 use Rattle.cg_group.proofs.Handing.{up_sound, down_sound, deliver_sound}
 use Rattle.cg_group.proofs.Changing.{in_phase, split_sound, merge_sound}
+use Rattle.cg_base.specs.MemberLaws.{list_any_in, has_count_up}
+use Rattle.cg_base.specs.ListLaws.{at_place-nil}
+use Rattle.cg_base.specs.OptionLaws.{first_none}
 
 -- a place that exists isn't none
 at_place-from_one : {X : Type 0} (xs : List X) (place : ℕ) → is_some (at_place xs place) ≡ true → 0 < place
@@ -112,13 +113,9 @@ module _ {M : Type 0} where
     earlier = λ q c. tt;
   }
 
-  none_at : (c : ℕ) → at_place {X = Configuration M} [] c ≡ None
-  none_at zero = refl
-  none_at (suc c) = refl
-
   none_configured : (c : ℕ) → configuration {M = M} no_group c ≡ no_configuration
   unfolding configuration
-  none_configured c = ap (λ (o : Option (Configuration M)). option_map_or (λ c. c) o no_configuration) (none_at c)
+  none_configured c = ap (λ (o : Option (Configuration M)). option_map_or (λ c. c) o no_configuration) (at_place-nil c)
 
   begins_sound : SoundHistory beginning
   begins_sound = record {
@@ -161,12 +158,6 @@ has_filter t (y ∷ xs) x m e = ⊎_elim
     (λ here. ap (λ z. has z x) (cond-true (t y) (y ∷ filter t xs) (filter t xs) (ap t (eqb-true y x here) ∙ e)) ∙ or_left (y == x) (has (filter t xs) x) here)
     (λ there. cond_both (t y) (y ∷ filter t xs) (filter t xs) (λ z. has z x ≡ true) (λ pass. or_right (y == x) (has (filter t xs) x) (has_filter t xs x there e)) (λ fail. has_filter t xs x there e))
     (or_cases (y == x) (has xs x) m)
-
-has_count_up : (from n x : ℕ) → from ≤ x → x < from + n → has (count_up from n) x ≡ true
-has_count_up from zero x a b = absurd (omega arith)
-has_count_up from (suc n) x a b = ⊎_elim
-    (λ e. or_left (from == x) (has (count_up (suc from) n) x) (eq-eqb from x e))
-    (λ ne. or_right (from == x) (has (count_up (suc from) n) x) (has_count_up (suc from) n x (omega arith) (omega arith))) (cases_eq from x)
 
 -- counted numbers ascend, and so do those of them that pass, and more above them
 AscendsAbove-lower : (low high : ℕ) (places : List ℕ) → low ≤ high → AscendsAbove high places → AscendsAbove low places

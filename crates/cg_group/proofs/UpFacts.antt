@@ -8,8 +8,9 @@ use Rattle.cg_group.specs.State.{Configuration, Standing, GroupState, is_up, sta
 use Rattle.cg_group.specs.Events.{become_regular, become_transitional}
 use Rattle.cg_group.specs.Refusals.{any_of, not_up, empty_set, merge_refusal, split_refusal}
 use Rattle.cg_group.specs.Rosters.{AllUp}
-use Rattle.cg_group.specs.RefusalLaws.{first_none, refuse_none}
+use Rattle.cg_group.specs.RefusalLaws.{refuse_none}
 use Rattle.cg_group.specs.LookupLaws.{standing_of-set}
+use Rattle.cg_base.specs.OptionLaws.{first_none}
 
 module _ {M : Type 0} where
   pub is_up-set : (g : GroupState M) (s : Standing M) (q : ℕ) → is_up g q ≡ true → is_up (set_standing g s) q ≡ true

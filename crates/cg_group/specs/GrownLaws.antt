@@ -8,12 +8,10 @@ use Rattle.cg_base.specs.Sets.{has, with_member}
 use Rattle.cg_base.specs.SetLaws.{has-with_member}
 use Rattle.cg_group.specs.State.{Sent, Configuration, has_received}
 use Rattle.cg_group.specs.Events.{with_receipt, with_message}
-use Rattle.cg_group.specs.PlaceLaws.{at_place-append, at_place-within, at_place-past, at_place-last}
+use Rattle.cg_group.specs.PlaceLaws.{at_place-append, at_place-within, at_place-last}
 use Rattle.cg_group.specs.LookupLaws.{eqb_comm, at_place-changed, length-changed_at}
-
-or_nothing : (b : Bool) → (b || false) ≡ b
-or_nothing true = refl
-or_nothing false = refl
+use Rattle.cg_base.specs.BoolLaws.{or_false}
+use Rattle.cg_base.specs.ListLaws.{at_place-past}
 
 and_true : (a b : Bool) → b ≡ true → (a && b) ≡ a
 and_true true b e = e
@@ -56,7 +54,7 @@ module _ {M : Type 0} where
       ap got (cond-false (at == place) (option_map (λ set. with_member set p) (at_place C.received at))
       (at_place C.received at) n)
       ∙ sym (ap (λ b. got (at_place C.received at) || b) (and_right (p == q) (place == at) (eqb_comm place at ∙ n))
-      ∙ or_nothing (got (at_place C.received at))))
+      ∙ or_false (got (at_place C.received at))))
       (cases_Bool (at == place))
 
   pub ordered-receipt : (C : Configuration M) (p place : ℕ) → (with_receipt C p place).ordered ≡ C.ordered
@@ -91,7 +89,7 @@ module _ {M : Type 0} where
         ordered = sym (append-nil C.ordered);
         kept = λ q at got. says q at ∙ or_left (has_received C q at) ((p == q) && (place == at)) got;
         others = λ q at ne. says q at ∙ ap (λ z. has_received C q at
-            || z) (and_left (p == q) (place == at) (ne_eqb p q (λ e. ne (sym e)))) ∙ or_nothing (has_received C q at);
+            || z) (and_left (p == q) (place == at) (ne_eqb p q (λ e. ne (sym e)))) ∙ or_false (has_received C q at);
         bounded = λ q at got. received-within (with_receipt C p place) q at (level-receipt C p place ∙ level) got;
       }
 
@@ -110,7 +108,7 @@ module _ {M : Type 0} where
       ∙ by_test (at == suc (length C.received))
     where
       by_test : (b : Bool) → option_map_or (λ set. has set q) (cond b (Some (p ∷ [])) None) false ≡ (b && (p == q))
-      by_test true = or_nothing (p == q)
+      by_test true = or_false (p == q)
       by_test false = refl
 
   pub level-message : (C : Configuration M) (p : ℕ) (m : M) → length C.received ≡ length C.ordered →

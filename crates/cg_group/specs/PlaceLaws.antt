@@ -44,13 +44,6 @@ module _ {X : Type 0} where
   at_place-within (x ∷ xs) (suc zero) p h = (x, refl)
   at_place-within (x ∷ xs) (suc (suc n)) p h = at_place-within xs (suc n) (omega arith) (omega arith)
 
-  -- past the end of a list
-  pub at_place-past : (xs : List X) (place : ℕ) → length xs < place → at_place xs place ≡ None
-  at_place-past xs zero h = absurd (omega arith)
-  at_place-past [] (suc n) h = refl
-  at_place-past (x ∷ xs) (suc zero) h = absurd (omega arith)
-  at_place-past (x ∷ xs) (suc (suc n)) h = at_place-past xs (suc n) (omega arith)
-
   -- past the end of a list, with one more element
   pub at_place-last : (xs : List X) (x : X) (place : ℕ) → length xs < place →
       at_place (xs ++ x ∷ []) place ≡ cond (place == suc (length xs)) (Some x) None
