@@ -1,5 +1,5 @@
 -- What is seen after an action is taken in, and of two values that are joined; and that the sums stay small.
-use Rattle.std.proofs.Common.{◌≡◌, ℕ, suc, ◌+◌, ◌*◌, ◌^◌, ◌<◌, ◌≤◌, Bool, true, false, not, cond, eqb, ltb, List, [], length, inl, inr, refl, sym, ap, subst, ◌∙◌, arith}
+use Rattle.std.proofs.Common.{◌≡◌, ℕ, suc, ◌+◌, ◌*◌, ◌^◌, ◌<◌, ◌≤◌, Bool, true, false, not, cond, eqb, ltb, List, [], length, inl, inr, sym, ap, subst, ◌∙◌, arith}
 use Rattle.std.specs.Prelude.{All, Option, Some, None, ℤ, pos, ◌+ℤ◌}
 use Rattle.std.specs.Option.{unwrap_or, option_or}
 use Rattle.std.specs.Map.{lookup}
@@ -19,6 +19,7 @@ use Rattle.cg_relaxed.specs.RelaxedState.{RelaxedState, part, same_part, sum_at,
 use Rattle.cg_relaxed.proofs.Cuts.{index_in-greatest}
 use Rattle.cg_relaxed.proofs.Bounds.{wider, sum-after-within, sum-after-from}
 use Rattle.cg_relaxed.proofs.OneMap.{raised-index}
+use Rattle.cg_base.specs.OptionLaws.{option_or_none}
 
 -- ---- an action
 
@@ -73,15 +74,11 @@ small-sum known kept key p small =
 
 -- ---- a join
 
-or-none : (x : Option ℤ) → option_or x None ≡ x
-or-none None = refl
-or-none (Some n) = refl
-
 joined-sum : (less : Bool) (mine other first all : Option ℤ) → first ≡ cond (not less) (option_or mine None) None →
     all ≡ cond less (option_or other first) first → unwrap_or all (pos 0) ≡ cond less (unwrap_or other (pos 0)) (unwrap_or mine (pos 0))
 joined-sum true mine other first all one both =
-    ap (λ o. unwrap_or o (pos 0)) (both ∙ ap (λ x. option_or other x) one ∙ or-none other)
-joined-sum false mine other first all one both = ap (λ o. unwrap_or o (pos 0)) (both ∙ one ∙ or-none mine)
+    ap (λ o. unwrap_or o (pos 0)) (both ∙ ap (λ x. option_or other x) one ∙ option_or_none other)
+joined-sum false mine other first all one both = ap (λ o. unwrap_or o (pos 0)) (both ∙ one ∙ option_or_none mine)
 
 joined-register : (mine other first all : Option Write) → first ≡ merged mine None None → all ≡ merged other mine first → all ≡ later mine other
 joined-register None None first all one both = both ∙ one

@@ -6,7 +6,7 @@ use Rattle.cg_base.specs.Sets.{IsId, Ascends}
 use Rattle.cg_base.specs.Cuts.{index_in, raise, creators_in}
 use Rattle.cg_base.specs.CutLimits.{IsCut, NameActions}
 use Rattle.cg_base.specs.Calls.{greatest_cut}
-use Rattle.cg_base.specs.CutLaws.{index_in-before, index_in-raise, IsCut-raise, AreNames, IsCut-raised}
+use Rattle.cg_base.specs.CutLaws.{index_in-before, index_in-raise, IsCut-raise, AreNames, IsCut-raised, index_in-first}
 
 are-names : (cut : List ActionId) (low : ℕ) → 1 ≤ low → Ascends low (creators_in cut) → NameActions cut → AreNames cut
 are-names [] low one up named = tt
@@ -43,26 +43,23 @@ index_in-greatest c d p one other = raised-at c d 1 p one (omega arith) other.as
 
 -- ---- the indexes are all there is to a cut
 
-first-index : (t : ActionId) (cut : List ActionId) → index_in (t ∷ cut) t.creator ≡ t.index
-first-index t cut = rw (eq-eqb t.creator t.creator refl)
-
 same-from : (c d : List ActionId) (low : ℕ) → Ascends low (creators_in c) → Ascends low (creators_in d) → NameActions c → NameActions d →
     ((p : ℕ) → index_in c p ≡ index_in d p) → c ≡ d
 same-from [] [] low up also one other same = refl
 same-from [] (t ∷ d) low up also one other same =
     let some : 1 ≤ t.index = other.0 in
-    let none : 0 ≡ t.index = same t.creator ∙ first-index t d in
+    let none : 0 ≡ t.index = same t.creator ∙ index_in-first t d in
     absurd (omega arith)
 same-from (s ∷ c) [] low up also one other same =
     let some : 1 ≤ s.index = one.0 in
-    let none : 0 ≡ s.index = sym (same s.creator) ∙ first-index s c in
+    let none : 0 ≡ s.index = sym (same s.creator) ∙ index_in-first s c in
     absurd (omega arith)
 same-from (s ∷ c) (t ∷ d) low up also one other same =
     let some : 1 ≤ s.index = one.0 in
     let others : 1 ≤ t.index = other.0 in
     elim (cases_order s.creator t.creator) [
       | inl creator ↦
-          let index : s.index ≡ t.index = sym (first-index s c) ∙ same s.creator ∙ ap (λ p. index_in (t ∷ d) p) creator ∙ first-index t d in
+          let index : s.index ≡ t.index = sym (index_in-first s c) ∙ same s.creator ∙ ap (λ p. index_in (t ∷ d) p) creator ∙ index_in-first t d in
           let lower : Ascends (suc s.creator) (creators_in d) = rw creator also.2 in
           let rest : (p : ℕ) → index_in c p ≡ index_in d p =
           λ p. behind s t c d p creator up.2 lower (same p) in
@@ -71,12 +68,12 @@ same-from (s ∷ c) (t ∷ d) low up also one other same =
         | inl below ↦
             let least : t.creator ≤ t.creator = omega arith in
             let none : index_in (t ∷ d) s.creator ≡ 0 = index_in-before (t ∷ d) t.creator s.creator (least, also.1, also.2) below in
-            let zero : s.index ≡ 0 = sym (first-index s c) ∙ same s.creator ∙ none in
+            let zero : s.index ≡ 0 = sym (index_in-first s c) ∙ same s.creator ∙ none in
             absurd (omega arith)
         | inr above ↦
             let least : s.creator ≤ s.creator = omega arith in
             let none : index_in (s ∷ c) t.creator ≡ 0 = index_in-before (s ∷ c) s.creator t.creator (least, up.1, up.2) above in
-            let zero : t.index ≡ 0 = sym (first-index t d) ∙ sym (same t.creator) ∙ none in
+            let zero : t.index ≡ 0 = sym (index_in-first t d) ∙ sym (same t.creator) ∙ none in
             absurd (omega arith)
       ]
     ]
