@@ -2,7 +2,7 @@
 use Rattle.std.proofs.Common.{◌≡◌, ℕ, ◌+◌, ◌-◌, ◌*◌, ◌/◌, ◌%◌, ◌<◌, Bool, true, false, cond, eqb, ltb, List, [], ◌∷◌, ◌++◌, length, Option, Some, None, Result, Ok, Err, refl, sym, ap, ◌∙◌, arith, codes, append_assoc}
 use Rattle.std.specs.Prelude.{◌&&◌, ◌||◌, nat_le, nat_eq}
 use Rattle.std.specs.List.{flat_map}
-use Rattle.std.proofs.lemmas.Bool.{ne_eqb, leb-true, le-leb, lt-leb, lt-ltb, le-ltb, ltb-true, ltb-false, and_parts, and_right}
+use Rattle.std.proofs.lemmas.Bool.{ne_eqb, leb-true, le-leb, lt-leb, lt-ltb, le-ltb, ltb-true, ltb-false, and_parts, and_right, or_parts}
 use Rattle.std.proofs.lemmas.List.{append-nil}
 use Rattle.cg_text.specs.Order.{same_text}
 use Rattle.cg_text.specs.Numbers.{is_digit}
@@ -13,6 +13,7 @@ use Rattle.cg_schedule.specs.Print.{hex_glyph, hex_text, fill_text}
 use Rattle.cg_schedule.specs.Limits.{AreBytes, IsFill}
 use Rattle.cg_schedule.proofs.PartLaws.{IsToken}
 use Rattle.cg_schedule.proofs.TokenParts.{same_text-true}
+use Rattle.std.proofs.lemmas.Option.{same_Some}
 
 -- ---- digits
 
@@ -27,9 +28,6 @@ hex_digit-glyph n small = by_size (ltb n 10) refl where
       let above = ltb-false n 10 e in
       let back : 87 + n - 87 ≡ n = omega arith in
       rw (le-leb 48 (87 + n) (omega arith), lt-leb (87 + n) 57 (omega arith), le-leb 97 (87 + n) (omega arith), le-leb (87 + n) 102 (omega arith), back) refl
-
-same_Some : (a b : ℕ) → Some a ≡ Some b → a ≡ b
-same_Some a b e = cc
 
 glyph-hex_digit : (byte n : ℕ) → hex_digit byte ≡ Some n → (n < 16) × (byte ≡ hex_glyph n)
 glyph-hex_digit byte n e = by_digit (is_digit byte) refl e where
@@ -122,10 +120,6 @@ both_cond : {X : Type 0} (b : Bool) (fault : LineFault) (r : Result X LineFault)
 both_cond true fault r x e = absurd cc
 both_cond false fault r x e = (refl, e)
 
-or_false : (a b : Bool) → (a || b) ≡ false → (a ≡ false) × (b ≡ false)
-or_false true b e = absurd cc
-or_false false b e = (refl, e)
-
 pub fill_token : IsToken IsFill fill_text fill
 unfolding fill
 fill_token = record { again = again; found = λ bytes token e. found bytes token (same_text token (codes "-")) refl e } where
@@ -150,7 +144,7 @@ fill_token = record { again = again; found = λ bytes token e. found bytes token
       rw (← none) ((tt, omega arith), same_text-true token (codes "-") same)
   found bytes token false same e =
       let g = both_cond (eqb (length token) 0 || ltb 8192 (length token)) bad_text (hex_bytes [] token) bytes e in
-      let tests = or_false (eqb (length token) 0) (ltb 8192 (length token)) g.0 in
+      let tests = or_parts (eqb (length token) 0) (ltb 8192 (length token)) g.0 in
       let f = hex_bytes-found [] token bytes g.1 in
       let few = ltb-false 8192 (length token) tests.1 in
       let long : length token ≡ 2 * length f.more = ap length f.spelled ∙ length-hex f.more in

@@ -1,6 +1,6 @@
 -- A line reads as an event exactly where its tokens are those of the event's printed line.
 use Rattle.std.proofs.Common.{◌≡◌, ℕ, ◌^◌, ◌<◌, ◌≤◌, Bool, true, false, cond, List, [], ◌∷◌, ◌++◌, Option, Some, None, Result, Ok, Err, refl, sym, ap, ◌∙◌, arith, codes}
-use Rattle.std.specs.Prelude.{decimal, find}
+use Rattle.std.specs.Prelude.{decimal}
 use Rattle.std.specs.Str.{is_utf8}
 use Rattle.std.proofs.lemmas.List.{append-nil}
 use Rattle.std.proofs.lemmas.Str.{is_utf8-from_IsUtf8}
@@ -23,6 +23,8 @@ use Rattle.cg_schedule.proofs.TokenParts.{TextFacts, same_text-true}
 use Rattle.cg_schedule.proofs.SetParts.{member_text}
 use Rattle.cg_schedule.proofs.EventParts.{event_parts, EventFound, event_found, event_again}
 use Rattle.cg_schedule.proofs.LineTokens.{TokenFacts, IsLine, line_word, line_gap, line_number, line_member, line_fill, line_query, line_update, line_parts, ids_each, members_each}
+use Rattle.cg_base.specs.ListLaws.{same_cons, same_rest}
+use Rattle.cg_base.specs.FindLaws.{found_passes}
 
 -- ---- printed lines
 
@@ -109,19 +111,9 @@ printed_tokens facts texts e has =
 
 -- ---- words
 
-test_passes : {X : Type 0} (p : X → Bool) (y x : X) (others : Option X) → (others ≡ Some x → p x ≡ true) → (b : Bool) → p y ≡ b → cond b (Some y) others ≡ Some x → p x ≡ true
-test_passes {X = X} p y x others rest true t f = rw (← first y x f) t where
-  first : (a b : X) → cond true (Some a) None ≡ Some b → a ≡ b
-  first a b f = cc
-test_passes p y x others rest false t f = rest f
-
-find-passes : {X : Type 0} (p : X → Bool) (xs : List X) (x : X) → find p xs ≡ Some x → p x ≡ true
-find-passes p [] x e = absurd cc
-find-passes p (y ∷ xs) x e = test_passes p y x (find p xs) (λ f. find-passes p xs x f) (p y) refl e
-
 word_of-text : (text : List ℕ) (word : Word) → word_of text ≡ Some word → text ≡ word_text word
 unfolding word_of
-word_of-text text word e = sym (same_text-true (word_text word) text (find-passes (λ w. same_text (word_text w) text) every_word word e))
+word_of-text text word e = sym (same_text-true (word_text word) text (found_passes (λ w. same_text (word_text w) text) every_word word e))
 
 word_of-again : (word : Word) → word_of (word_text word) ≡ Some word
 unfolding word_of
@@ -178,10 +170,7 @@ opening_of-ok state [] found e = absurd cc
 opening_of-ok state (token ∷ rest) found e =
     let g = placed-ok state rest (word_of token) found e in
     let text = word_of-text token found.0 g.0 in
-    (g.2, both token (word_text found.0) rest found.1 text g.1)
-  where
-    both : (t u : List ℕ) (l m : List (List ℕ)) → t ≡ u → l ≡ m → t ∷ l ≡ u ∷ m
-    both t u l m x y = cc
+    (g.2, same_cons token (word_text found.0) rest found.1 text g.1)
 
 opening-ok : (state : ReaderState) (line : List ℕ) (found : Word × List (List ℕ)) → opening state line ≡ opened found → Opens state line found
 unfolding opening
@@ -218,7 +207,7 @@ reads_into facts texts state line e f =
     let g = reading_behind-ok (opening state line) e f in
     let o = opening-ok state line g.0 g.1 in
     let k : EventFound g.0.0 g.0.1 e = event_found texts g.0.0 g.0.1 e g.2 in
-    let spelled : word_text g.0.0 ∷ g.0.1 ≡ event_tokens e = both (word_text g.0.0) (word_text (event_word e)) g.0.1 (event_parts e) (ap word_text (sym k.1)) k.2 in
+    let spelled : word_text g.0.0 ∷ g.0.1 ≡ event_tokens e = same_cons (word_text g.0.0) (word_text (event_word e)) g.0.1 (event_parts e) (ap word_text (sym k.1)) k.2 in
     record {
       stands = o.stands;
       is_text = o.is_text;
@@ -226,9 +215,6 @@ reads_into facts texts state line e f =
       within = k.0;
       same_tokens = o.line_tokens ∙ spelled ∙ sym (printed_tokens facts texts e k.0);
     }
-  where
-    both : (t u : List ℕ) (l m : List (List ℕ)) → t ≡ u → l ≡ m → t ∷ l ≡ u ∷ m
-    both t u l m x y = cc
 
 pub reads_from : TokenFacts → TextFacts → (state : ReaderState) (line : List ℕ) (e : Event) → ReadsAs state line e → Reads state line e
 reads_from facts texts state line e r =
@@ -239,10 +225,6 @@ pub printed_reads : TokenFacts → TextFacts → (state : ReaderState) (e : Even
 printed_reads facts texts state e within may =
     reads_from facts texts state (line_of e) e record { stands = printed_stands e; is_text = is_utf8-from_IsUtf8 (line_of e) (printed facts texts e within).utf8; may_stand = may; within = within; same_tokens = refl }
 
--- the parts behind the word alone
-others : (t : List ℕ) (l m : List (List ℕ)) → t ∷ l ≡ t ∷ m → l ≡ m
-others t l m e = cc
-
 pub parts_into : TokenFacts → TextFacts → (e : Event) (parts : List (List ℕ)) → whole (event_reading (event_word e)) parts ≡ Ok e → IsEvent e × (tokens (line_of e) ≡ word_text (event_word e) ∷ parts)
 parts_into facts texts e parts f =
     let k : EventFound (event_word e) parts e = event_found texts (event_word e) parts e f in
@@ -250,7 +232,7 @@ parts_into facts texts e parts f =
 
 pub parts_from : TokenFacts → TextFacts → (e : Event) (parts : List (List ℕ)) → IsEvent e × (tokens (line_of e) ≡ word_text (event_word e) ∷ parts) → whole (event_reading (event_word e)) parts ≡ Ok e
 parts_from facts texts e parts is =
-    let same : event_parts e ≡ parts = others (word_text (event_word e)) (event_parts e) parts (sym (printed_tokens facts texts e is.0) ∙ is.1) in
+    let same : event_parts e ≡ parts = same_rest (word_text (event_word e)) (event_parts e) parts (sym (printed_tokens facts texts e is.0) ∙ is.1) in
     rw (← same) (event_again texts e is.0)
 
 -- the event of a line is that of its tokens

@@ -28,10 +28,11 @@ use Rattle.cg_action.specs.Print.{value_text, want_text, command_text, query_tex
 use Rattle.cg_schedule.specs.Print.{hex_glyph, hex_text, fill_text}
 use Rattle.cg_schedule.specs.Limits.{IsQuery, IsUpdate, AreBytes}
 use Rattle.cg_schedule.proofs.TokenParts.{TextFacts, IsValue, IsWant}
-use Rattle.cg_schedule.proofs.MemberParts.{list_all-also, decimal-digits}
+use Rattle.cg_schedule.proofs.MemberParts.{decimal-digits}
 use Rattle.cg_schedule.proofs.CommandParts.{IsCommand, command_tokens, query_tokens}
 use Rattle.cg_schedule.proofs.UpdateParts.{next_tokens, commands_tokens, update_tokens}
 use Rattle.cg_schedule.proofs.QuotedUtf8.{is_ascii, IsUtf8-ascii, IsUtf8-quoted}
+use Rattle.cg_base.specs.EachLaws.{list_all_kept_by}
 
 -- what is known of the tokens of a line
 pub record TokenFacts : Type 0 where
@@ -111,7 +112,7 @@ record Stands (bytes : List ℕ) : Type 0 where
   ascii : list_all is_ascii bytes ≡ true
 
 stands-digits : (bytes : List ℕ) → list_all is_digit bytes ≡ true → Stands bytes
-stands-digits bytes e = record { marks = list_all-also is_digit stands_in_word digit_stands bytes e; ascii = list_all-also is_digit is_ascii digit_ascii bytes e }
+stands-digits bytes e = record { marks = list_all_kept_by is_digit stands_in_word digit_stands bytes e; ascii = list_all_kept_by is_digit is_ascii digit_ascii bytes e }
 
 stands-append : (a b : List ℕ) → Stands a → Stands b → Stands (a ++ b)
 stands-append a b x y = record {

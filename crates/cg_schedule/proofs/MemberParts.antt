@@ -2,7 +2,7 @@
 use Rattle.std.proofs.Common.{◌≡◌, ℕ, ◌^◌, ◌<◌, Bool, true, false, cond, eqb, List, [], ◌∷◌, ◌++◌, length, Some, None, Result, Ok, Err, refl, sym, ap, ◌∙◌, arith}
 use Rattle.std.specs.Prelude.{decimal, not}
 use Rattle.std.specs.List.{list_all, slice_split, join_with_byte}
-use Rattle.std.proofs.lemmas.Bool.{eqb-true, eqb-false, ne_eqb, leb-true, and_parts, and_from, not-true}
+use Rattle.std.proofs.lemmas.Bool.{eqb-true, eqb-false, ne_eqb, leb-true, and_parts, not-true}
 use Rattle.std.proofs.lemmas.List.{append-nil, nil_from_length}
 use Rattle.std.proofs.lemmas.List.Splits.{join_with_byte-slice_split}
 use Rattle.cg_base.specs.declared.weighted.Weighted.{Weighted}
@@ -16,15 +16,9 @@ use Rattle.cg_schedule.specs.Part.{number, with_weight, weighted_of, weighted}
 use Rattle.cg_schedule.specs.Limits.{IsWithin, IsMember}
 use Rattle.cg_schedule.proofs.PartLaws.{IsToken}
 use Rattle.cg_schedule.proofs.TokenParts.{TextFacts, number_token}
+use Rattle.cg_base.specs.EachLaws.{list_all_kept_by}
 
 -- ---- digits
-
--- a test that follows from another holds of all where the other does
-pub list_all-also : (p q : ℕ → Bool) → ((byte : ℕ) → p byte ≡ true → q byte ≡ true) → (bytes : List ℕ) → list_all p bytes ≡ true → list_all q bytes ≡ true
-list_all-also p q also [] e = refl
-list_all-also p q also (byte ∷ bytes) e =
-    let parts = and_parts (p byte) (list_all p bytes) e in
-    and_from (q byte) (list_all q bytes) (also byte parts.0) (list_all-also p q also bytes parts.1)
 
 -- a number is digits, at least one
 plain-digits : (bytes : List ℕ) → is_plain bytes ≡ true → (list_all is_digit bytes ≡ true) × (0 < length bytes)
@@ -87,7 +81,7 @@ weighted_token facts = record { again = λ m has. again m has (eqb m.weight 1) r
   weights = number_token facts 2 255 (omega arith)
 
   no_star : (n : ℕ) → n < 2 ^ 64 → list_all (λ byte. not (eqb byte 42)) (decimal n) ≡ true
-  no_star n small = list_all-also is_digit (λ byte. not (eqb byte 42)) digit_no_star (decimal n) (decimal-digits facts n small).0
+  no_star n small = list_all_kept_by is_digit (λ byte. not (eqb byte 42)) digit_no_star (decimal n) (decimal-digits facts n small).0
 
   again : (m : Weighted) → IsMember m → (b : Bool) → eqb m.weight 1 ≡ b → weighted (decimal m.id ++ cond b [] (42 ∷ decimal m.weight)) ≡ Ok m
   again m has true one =

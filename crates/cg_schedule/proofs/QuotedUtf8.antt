@@ -7,15 +7,13 @@ use Rattle.std.proofs.lemmas.Bool.{and_parts, cases_lt, ne_eqb, ltb-true}
 use Rattle.std.proofs.lemmas.List.{append-nil}
 use Rattle.std.proofs.lemmas.List.Concat.{flat_map-append}
 use Rattle.std.proofs.lemmas.Str.{IsUtf8-append, IsUtf8-nil, IsUtf8-encode, encode_ascii, inside_one}
-use lib.Utf8.{scalar, scalars, encode, encodes, low_scalar}
+use lib.Utf8.{scalar, scalars, encode, encodes}
 use Rattle.cg_text.specs.Quoted.{is_special, escaped, quoted}
+use Rattle.cg_base.specs.TextLaws.{ascii_then}
 
 -- a byte that is a character by itself
 abbrev pub is_ascii : ℕ → Bool
 is_ascii byte = nat_lt byte 128
-
-ascii_then : (byte : ℕ) (bytes : List ℕ) → byte < 128 → IsUtf8 bytes → IsUtf8 (byte ∷ bytes)
-ascii_then byte bytes small utf8 = IsUtf8-append (byte ∷ []) bytes (subst IsUtf8 (encode_ascii byte small) (IsUtf8-encode byte (low_scalar byte (omega arith)))) utf8
 
 pub IsUtf8-ascii : (bytes : List ℕ) → list_all is_ascii bytes ≡ true → IsUtf8 bytes
 IsUtf8-ascii [] e = IsUtf8-nil

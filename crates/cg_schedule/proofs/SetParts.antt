@@ -16,6 +16,7 @@ use Rattle.cg_schedule.specs.Limits.{IsWithin}
 use Rattle.cg_schedule.proofs.PartLaws.{Nothing, Given, IsToken, IsPart, given}
 use Rattle.cg_schedule.proofs.TokenParts.{TextFacts, number_token}
 use Rattle.cg_schedule.proofs.MemberParts.{weighted_token}
+use Rattle.cg_base.specs.ListLaws.{same_cons}
 
 members-put : (set : List Weighted) (n : Weighted) → members (set ++ n ∷ []) ≡ members set ++ n.id ∷ []
 members-put [] n = refl
@@ -72,12 +73,9 @@ ids-found facts last set (token ∷ left) s new below e =
       rest = p ∷ more.rest;
       grown = more.grown ∙ append_assoc set (p ∷ []) more.rest;
       ascends = (omega arith, f.0.1, more.ascends);
-      tokens = both token (decimal p) left (map decimal more.rest) f.1 more.tokens;
+      tokens = same_cons token (decimal p) left (map decimal more.rest) f.1 more.tokens;
       none = more.none;
     }
-  where
-    both : (t u : List ℕ) (l m : List (List ℕ)) → t ≡ u → l ≡ m → t ∷ l ≡ u ∷ m
-    both t u l m x y = cc
 
 pub ids_is : TextFacts → IsPart Nothing IsSet (λ (s : List ℕ). map decimal s) (ids 0 [])
 ids_is facts = record {
@@ -140,12 +138,9 @@ weights-found facts last set (token ∷ left) s new below e =
       grown = more.grown ∙ append_assoc set (m ∷ []) more.rest;
       ascends = (omega arith, f.0.0.1, more.ascends);
       weigh = (f.0.1.0, f.0.1.1, more.weigh);
-      tokens = both token (member_text m) left (map member_text more.rest) f.1 more.tokens;
+      tokens = same_cons token (member_text m) left (map member_text more.rest) f.1 more.tokens;
       none = more.none;
     }
-  where
-    both : (t u : List ℕ) (l n : List (List ℕ)) → t ≡ u → l ≡ n → t ∷ l ≡ u ∷ n
-    both t u l n x y = cc
 
 pub weights_is : TextFacts → IsPart Nothing IsWeightSet (λ (s : List Weighted). map member_text s) (weights 0 [])
 weights_is facts = record {

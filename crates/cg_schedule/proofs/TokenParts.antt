@@ -22,6 +22,7 @@ use Rattle.cg_schedule.specs.Fault.{bad_number, bad_text}
 use Rattle.cg_schedule.specs.Part.{in_range, number, signed, integer, not_negative, amount, long_enough, text, is_quoted, text_value, number_value, value, some_value, want}
 use Rattle.cg_schedule.specs.Limits.{IsWithin, IsPrintable}
 use Rattle.cg_schedule.proofs.PartLaws.{IsToken}
+use Rattle.cg_base.specs.ResultLaws.{cond_ok}
 
 -- what is known of the spelling of numbers and texts
 pub record TextFacts : Type 0 where
@@ -31,11 +32,6 @@ pub record TextFacts : Type 0 where
 
 -- ---- tests
 
--- a test that was passed, where the other way is a fault
-pub passed : {X : Type 0} (b : Bool) (x y : X) (fault : LineFault) → cond b (Ok x) (Err fault) ≡ Ok y → (b ≡ true) × (x ≡ y)
-passed true x y fault e = (refl, cc)
-passed false x y fault e = absurd cc
-
 pub same_text-true : (xs ys : List ℕ) → same_text xs ys ≡ true → xs ≡ ys
 same_text-true xs ys e = (bytes_eq-Decides xs ys).0 e
 
@@ -43,7 +39,7 @@ same_text-true xs ys e = (bytes_eq-Decides xs ys).0 e
 
 in_range-ok : (low high : ℕ) (r : Result ℕ TextFault) (n : ℕ) → in_range low high r ≡ Ok n → (r ≡ Ok n) × IsWithin low high n
 in_range-ok low high (Ok m) n e =
-    let g = passed (nat_le low m && nat_le m high) m n bad_number e in
+    let g = cond_ok (nat_le low m && nat_le m high) m n bad_number e in
     let tests = and_parts (nat_le low m) (nat_le m high) g.0 in
     (ap (λ (k : ℕ). Ok k) g.1, rw (← g.1) (leb-true low m tests.0, leb-true m high tests.1))
 in_range-ok low high (Err fault) n e = absurd cc
@@ -99,7 +95,7 @@ amount_token facts = record {
 
 long_enough-ok : (low : ℕ) (r : Result (List ℕ) TextFault) (t : List ℕ) → long_enough low r ≡ Ok t → (r ≡ Ok t) × (low ≤ length t)
 long_enough-ok low (Ok s) t e =
-    let g = passed (nat_le low (length s)) s t bad_text e in
+    let g = cond_ok (nat_le low (length s)) s t bad_text e in
     (ap (λ (k : List ℕ). Ok k) g.1, rw (← g.1) (leb-true low (length s) g.0))
 long_enough-ok low (Err fault) t e = absurd cc
 

@@ -15,6 +15,7 @@ use Rattle.cg_schedule.specs.Limits.{IsPrintable, IsQuery, IsUpdate}
 use Rattle.cg_schedule.proofs.PartLaws.{Anything, Nothing, IsPart, Makes, gives, given, go_on-ok, made}
 use Rattle.cg_schedule.proofs.TokenParts.{TextFacts, same_text-true}
 use Rattle.cg_schedule.proofs.CommandParts.{IsCommand, command_tokens, command_reading, command_is, query_tokens, query_is}
+use Rattle.cg_base.specs.ListLaws.{same_cons}
 
 -- ---- tokens
 
@@ -91,14 +92,11 @@ ends_here n taken cmd ts u new is from e =
     let g = given (taken ++ cmd ∷ [], None) u [] new e in
     rw (← g.0, ← g.1) record { first = cmd; others = []; grown = refl; few = omega arith; is = is; are = All-nil IsCommand; asked = tt; tokens = from }
 
-same_tokens : (t u : List ℕ) (l m : List (List ℕ)) → t ≡ u → l ≡ m → t ∷ l ≡ u ∷ m
-same_tokens t u l m x y = cc
-
 asks_here : TextFacts → (n : ℕ) (taken : List Cmd) (cmd : Cmd) (mark : List ℕ) (left ts : List (List ℕ)) (u : Update) (new : List (List ℕ)) → IsCommand cmd → ts ≡ command_tokens cmd ++ (mark ∷ left) → mark ≡ codes "?"
     → with_query (taken ++ cmd ∷ []) left ≡ Ok (u, new) → CommandsFound (suc n) taken ts u new
 asks_here facts n taken cmd mark left ts u new is from question e =
     let f = (with_query_makes facts (taken ++ cmd ∷ [])).found u left new e in
-    let whole : mark ∷ left ≡ (codes "?" ∷ query_tokens f.from) ++ new = same_tokens mark (codes "?") left (query_tokens f.from ++ new) question f.tokens in
+    let whole : mark ∷ left ≡ (codes "?" ∷ query_tokens f.from) ++ new = same_cons mark (codes "?") left (query_tokens f.from ++ new) question f.tokens in
     rw (← f.is) record { first = cmd; others = []; grown = refl; few = omega arith; is = is; are = All-nil IsCommand; asked = f.has; tokens = from ∙ ap (λ (t : List (List ℕ)). command_tokens cmd ++ t) whole }
 
 goes_on : (n : ℕ) (taken : List Cmd) (cmd : Cmd) (mark : List ℕ) (left ts : List (List ℕ)) (u : Update) (new : List (List ℕ)) → IsCommand cmd → ts ≡ command_tokens cmd ++ (mark ∷ left) → mark ≡ codes ";"
@@ -107,7 +105,7 @@ goes_on n taken cmd mark left ts u new is from semicolon f =
     let rest = flat_map next_tokens f.others in
     let ask = asked_tokens u.1 in
     let regrouped : command_tokens f.first ++ ((rest ++ ask) ++ new) ≡ ((command_tokens f.first ++ rest) ++ ask) ++ new = rw (append_assoc rest ask new, append_assoc (command_tokens f.first ++ rest) ask new, append_assoc (command_tokens f.first) rest (ask ++ new)) refl in
-    let whole : mark ∷ left ≡ behind_tokens (f.first ∷ f.others) u.1 ++ new = same_tokens mark (codes ";") left _ semicolon (f.tokens ∙ regrouped) in
+    let whole : mark ∷ left ≡ behind_tokens (f.first ∷ f.others) u.1 ++ new = same_cons mark (codes ";") left _ semicolon (f.tokens ∙ regrouped) in
     record {
       first = cmd;
       others = f.first ∷ f.others;
