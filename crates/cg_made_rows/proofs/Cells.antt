@@ -1,9 +1,9 @@
 -- What values of the rows' actions read: the cell of the actions that their cut names.
-use Rattle.std.proofs.Common.{◌≡◌, ℕ, zero, suc, ◌+◌, ◌<◌, ◌≤◌, List, [], ◌∷◌, ◌++◌, length, take, drop, get_or, map, inl, inr, refl, sym, ap, ◌∙◌, drop-cons, arith}
-use Rattle.std.specs.Prelude.{flat_map, None, slice_get, Result, Ok, Err, IfOk}
+use Rattle.std.proofs.Common.{◌≡◌, ℕ, zero, suc, ◌+◌, ◌≤◌, List, [], ◌∷◌, ◌++◌, length, take, drop, get_or, map, inl, inr, refl, sym, ap, ◌∙◌, drop-cons, arith}
+use Rattle.std.specs.Prelude.{flat_map, slice_get, Result, Ok, Err, IfOk}
 use Rattle.std.specs.Option.{unwrap_or}
 use Rattle.std.proofs.lemmas.Bool.{cases_lt}
-use Rattle.std.proofs.lemmas.Option.{slice_get_past, unwrap_or-slice_get}
+use Rattle.std.proofs.lemmas.Option.{unwrap_or-slice_get}
 use Rattle.cg_base.specs.declared.action_id.ActionId.{ActionId}
 use Rattle.cg_base.specs.Calls.{greatest_cut}
 use Rattle.cg_base.specs.Cuts.{index_in}
@@ -17,22 +17,19 @@ use Rattle.cg_relaxed.specs.Relaxed.{RelaxedView, joined, cell_in, first_of, nam
 use Rattle.cg_relaxed.specs.RelaxedState.{RelaxedState, seen}
 use Rattle.cg_made_rows.specs.Kept.{no_action, made_in, IsFrom}
 use Rattle.cg_made_rows.specs.Rows.{named_in, cell_at}
+use Rattle.cg_base.specs.ListLaws.{at_place-past}
 
 abbrev pub name : ℕ → ℕ → ActionId
 name p index = record { creator = p; index = index }
 
 -- ---- what a cut names stands in the rows
 
-past : (row : List Action) (place : ℕ) → length row < place → at_place row place ≡ None
-past row zero long = absurd (omega arith)
-past row (suc k) long = slice_get_past row k (omega arith)
-
 pub index-within : (rows : List (List Action)) (r : RelaxedView) (p : ℕ) → IsOf (made_in rows) r →
     index_in r.known p ≤ length (row_at rows p)
 index-within rows r p of = elim (cases_lt (length (row_at rows p)) (index_in r.known p)) [
   | inl above ↦
       let n : ℕ = index_in r.known p in
-      let none : made_in rows (name p n) ≡ no_action = ap (λ o. unwrap_or o no_action) (past (row_at rows p) n above) in
+      let none : made_in rows (name p n) ≡ no_action = ap (λ o. unwrap_or o no_action) (at_place-past (row_at rows p) n above) in
       let stands : (made_in rows (name p n)).id ≡ name p n = of.by_name (name p n) (omega arith) (omega arith) in
       let zero_is : 0 ≡ n = ap (λ (a : Action). a.id.index) (sym none) ∙ ap (λ (id : ActionId). id.index) stands in
       absurd (omega arith)

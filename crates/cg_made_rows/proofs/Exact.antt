@@ -20,6 +20,7 @@ use Rattle.cg_made_rows.specs.declared.word.RelaxedWord.TheVariants.{Relaxed, Jo
 use Rattle.cg_made_rows.specs.Laws.{ReadsAs, ExactLines}
 use Rattle.cg_made_rows.specs.Line.{word_of, one_reading, both_reading, event_reading, relaxed_reading}
 use Rattle.cg_made_rows.proofs.Parts.{Known, behind_id, behind_key, from_id, from_key, id_token, word_token, key_token}
+use Rattle.cg_base.specs.TextLaws.{blank_parts}
 
 -- ---- how a line begins
 
@@ -122,13 +123,6 @@ one_key p key = (decimal p ++ codes " ") ++ quoted key
 abbrev two_and_key : ℕ → ℕ → List ℕ → List ℕ
 two_and_key p q key = (((decimal p ++ codes " ") ++ decimal q) ++ codes " ") ++ quoted key
 
-grouped : (p q rest : List ℕ) →
-    (((p ++ codes " ") ++ q) ++ codes " ") ++ rest ≡ p ++ 32 ∷ ((q ++ codes " ") ++ rest)
-grouped p q rest =
-    ap (λ t. t ++ rest) (append_assoc (p ++ codes " ") q (codes " "))
-    ∙ append_assoc (p ++ codes " ") (q ++ codes " ") rest
-    ∙ append_assoc p (codes " ") ((q ++ codes " ") ++ rest)
-
 module _ (known : Known) where
   one_tokens : (p : ℕ) (key : List ℕ) → IsId p → tokens (one_key p key) ≡ decimal p ∷ quoted key ∷ []
   one_tokens p key has =
@@ -138,7 +132,7 @@ module _ (known : Known) where
   two_tokens : (p q : ℕ) (key : List ℕ) → IsId p → IsId q →
       tokens (two_and_key p q key) ≡ decimal p ∷ decimal q ∷ quoted key ∷ []
   two_tokens p q key has also =
-      ap tokens (grouped (decimal p) (decimal q) (quoted key)) ∙ id_token known p (one_key q key) has
+      ap tokens (blank_parts (decimal p) (decimal q) (quoted key)) ∙ id_token known p (one_key q key) has
       ∙ ap (λ ts. decimal p ∷ ts) (one_tokens q key also)
 
   -- ---- each event

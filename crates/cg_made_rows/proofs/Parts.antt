@@ -1,5 +1,5 @@
 -- Numbers of replicas and keys between quotes, as parts of a line.
-use Rattle.std.proofs.Common.{◌≡◌, ℕ, ◌^◌, ◌<◌, ◌≤◌, Bool, true, false, cond, List, [], ◌∷◌, ◌++◌, length, Result, Ok, Err, refl, ap, ◌∙◌, arith}
+use Rattle.std.proofs.Common.{◌≡◌, ℕ, ◌^◌, ◌<◌, ◌≤◌, true, cond, List, [], ◌∷◌, ◌++◌, length, Result, Ok, Err, refl, ap, ◌∙◌, arith}
 use Rattle.std.specs.Prelude.{decimal, nat_le, ◌&&◌}
 use Rattle.std.specs.Fmt.{digits}
 use Rattle.std.specs.Str.{IsUtf8}
@@ -20,6 +20,8 @@ use Rattle.cg_schedule.specs.Limits.{IsPrintable}
 use Rattle.cg_schedule.specs.Part.{in_range, long_enough, number, text, id_part, text_part}
 use Rattle.cg_schedule.specs.Reading.{Reading, go_on, ◌>>=◌, lifted, ended, whole}
 use Rattle.cg_made_rows.specs.declared.relaxed_event.RelaxedEvent.{RelaxedEvent}
+use Rattle.cg_base.specs.ListLaws.{same_cons}
+use Rattle.cg_base.specs.ResultLaws.{cond_ok}
 
 -- the laws of numbers, of texts and of tokens
 pub record Known : Type 0 where
@@ -34,20 +36,16 @@ pub record Known : Type 0 where
 
 -- ---- what was read of one token
 
-passed : {X : Type 0} (b : Bool) (x y : X) (fault : LineFault) → cond b (Ok x) (Err fault) ≡ Ok y → (b ≡ true) × (x ≡ y)
-passed true x y fault e = (refl, cc)
-passed false x y fault e = absurd cc
-
 in_range-ok : (r : Result ℕ TextFault) (n : ℕ) → in_range 1 32 r ≡ Ok n → (r ≡ Ok n) × IsId n
 in_range-ok (Ok m) n e =
-    let g = passed (nat_le 1 m && nat_le m 32) m n bad_number e in
+    let g = cond_ok (nat_le 1 m && nat_le m 32) m n bad_number e in
     let tests = and_parts (nat_le 1 m) (nat_le m 32) g.0 in
     (ap (λ (k : ℕ). Ok k) g.1, rw (← g.1) (leb-true 1 m tests.0, leb-true m 32 tests.1))
 in_range-ok (Err fault) n e = absurd cc
 
 long_enough-ok : (r : Result (List ℕ) TextFault) (t : List ℕ) → long_enough 1 r ≡ Ok t → (r ≡ Ok t) × (1 ≤ length t)
 long_enough-ok (Ok u) t e =
-    let g = passed (nat_le 1 (length u)) u t bad_text e in
+    let g = cond_ok (nat_le 1 (length u)) u t bad_text e in
     (ap (λ (v : List ℕ). Ok v) g.1, rw (← g.1) (leb-true 1 (length u) g.0))
 long_enough-ok (Err fault) t e = absurd cc
 
@@ -71,9 +69,6 @@ record Found {X : Type 0} (Is : X → Type 0) (spelling : X → List ℕ) (ts : 
   within : Is x
   first : ts ≡ spelling x ∷ left
 
-both : (a b : List ℕ) (l m : List (List ℕ)) → a ≡ b → l ≡ m → a ∷ l ≡ b ∷ m
-both a b l m x y = cc
-
 module _ (known : Known) where
   id_found : (ts : List (List ℕ)) (n : ℕ) (left : List (List ℕ)) → id_part ts ≡ Ok (n, left) →
       Found IsId decimal ts n left
@@ -82,7 +77,7 @@ module _ (known : Known) where
   id_found (t ∷ ts) n left e =
       let l = lifted-ok (number 1 32 t) ts n left e in
       let r = in_range-ok (read_u64 t) n l.0 in
-      record { within = r.1; first = both t (decimal n) ts left (known.numbers.found t n r.0).1 l.1 }
+      record { within = r.1; first = same_cons t (decimal n) ts left (known.numbers.found t n r.0).1 l.1 }
 
   id_again : (n : ℕ) (left : List (List ℕ)) → IsId n → id_part (decimal n ∷ left) ≡ Ok (n, left)
   unfolding id_part number
@@ -96,7 +91,7 @@ module _ (known : Known) where
       let l = lifted-ok (text 1 64 t) ts key left e in
       let r = long_enough-ok (read_quoted 64 t) key l.0 in
       let is = (known.texts 64).found t key r.0 in
-      record { within = (is.0.0, is.0.1, r.1, is.0.2); first = both t (quoted key) ts left is.1 l.1 }
+      record { within = (is.0.0, is.0.1, r.1, is.0.2); first = same_cons t (quoted key) ts left is.1 l.1 }
 
   key_again : (key : List ℕ) (left : List (List ℕ)) → IsPrintable 1 64 key →
       key_part (quoted key ∷ left) ≡ Ok (key, left)

@@ -1,5 +1,5 @@
 -- A line reads as an event of a session exactly where its tokens are those of the event's printed line.
-use Rattle.std.proofs.Common.{◌≡◌, ℕ, Bool, true, false, cond, List, [], ◌∷◌, ◌++◌, Option, Some, None, Result, Ok, Err, refl, sym, ap, subst, ◌∙◌, append_assoc, codes}
+use Rattle.std.proofs.Common.{◌≡◌, ℕ, Bool, true, false, cond, List, [], ◌∷◌, ◌++◌, Option, Some, None, Result, Ok, Err, refl, sym, ap, subst, ◌∙◌, codes}
 use Rattle.std.specs.Prelude.{decimal, option_map}
 use Rattle.std.specs.Str.{is_utf8}
 use Rattle.std.proofs.lemmas.List.{append-nil}
@@ -26,6 +26,8 @@ use Rattle.cg_session.specs.declared.word.SessionWord.TheVariants.{Session, Swri
 use Rattle.cg_session.specs.Laws.{ReadsAs, ExactLines}
 use Rattle.cg_session.specs.Line.{word_of, begin_reading, write_reading, weak_reading, event_reading, session_reading}
 use Rattle.cg_session.proofs.Parts.{Known, id_token, number_found, number_again, Alike, of_session, into, back}
+use Rattle.cg_base.specs.TextLaws.{blank_parts}
+use Rattle.cg_base.specs.ListLaws.{same_rest}
 
 -- ---- how a line begins
 
@@ -153,20 +155,9 @@ queries = record {
 
 -- ---- the number, and the parts behind it
 
-others : (t : List ℕ) (ts us : List (List ℕ)) → t ∷ ts ≡ t ∷ us → ts ≡ us
-others t ts us e = cc
-
 ended_done : (x e : SessionEvent) (left : List (List ℕ)) → whole (done x) left ≡ Ok e → (x ≡ e) × (left ≡ [])
 ended_done x e [] f = (cc, refl)
 ended_done x e (t ∷ left) f = absurd cc
-
--- a number, and two parts more
-pub grouped : (s p rest : List ℕ) →
-    (((s ++ codes " ") ++ p) ++ codes " ") ++ rest ≡ s ++ 32 ∷ ((p ++ codes " ") ++ rest)
-grouped s p rest =
-    ap (λ t. t ++ rest) (append_assoc (s ++ codes " ") p (codes " "))
-    ∙ append_assoc (s ++ codes " ") (p ++ codes " ") rest
-    ∙ append_assoc s (codes " ") ((p ++ codes " ") ++ rest)
 
 module _ (known : Known) where
   -- a word and what stands behind a blank
@@ -181,7 +172,7 @@ module _ (known : Known) where
       let first : tokens (s ++ 32 ∷ ((p ++ codes " ") ++ rest)) ≡ s ∷ tokens (32 ∷ ((p ++ codes " ") ++ rest)) =
       rw e (id_token known n (32 ∷ ((p ++ codes " ") ++ rest)) has refl) in
       worded text _ is
-      ∙ ap (λ ts. text ∷ ts) (ap tokens (grouped s p rest) ∙ first
+      ∙ ap (λ ts. text ∷ ts) (ap tokens (blank_parts s p rest) ∙ first
       ∙ ap (λ ts. s ∷ ts) (known.blank 32 ((p ++ codes " ") ++ rest) refl))
 
   -- a number with which the line ends
@@ -202,7 +193,7 @@ module _ (known : Known) where
         IsEvent e × (left ≡ tokens ((p ++ codes " ") ++ text))
     parts_found left read =
         let r = (known.parts e left).0 read in
-        (r.0, others (word_text (event_word e)) left (tokens ((p ++ codes " ") ++ text)) (sym r.1 ∙ line_tokens))
+        (r.0, same_rest (word_text (event_word e)) left (tokens ((p ++ codes " ") ++ text)) (sym r.1 ∙ line_tokens))
 
     parts_again : IsEvent e → whole (schedule_reading (event_word e)) (tokens ((p ++ codes " ") ++ text)) ≡ Ok e
     parts_again within = (known.parts e (tokens ((p ++ codes " ") ++ text))).1 (within, line_tokens)

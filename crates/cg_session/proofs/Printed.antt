@@ -4,7 +4,7 @@ use Rattle.std.specs.Prelude.{decimal}
 use Rattle.std.specs.Char.{encode_utf8}
 use Rattle.std.specs.Str.{IsUtf8, chars, is_utf8}
 use Rattle.std.proofs.lemmas.List.{drop_at, length-append, get_or_at}
-use Rattle.std.proofs.lemmas.Str.{IsUtf8-append, IsUtf8-drop, IsUtf8-from_ascii, IsUtf8-from_is_utf8, is_utf8-from_IsUtf8, IsCharBoundary-after_ascii}
+use Rattle.std.proofs.lemmas.Str.{IsUtf8-append, IsUtf8-drop, IsUtf8-from_is_utf8, is_utf8-from_IsUtf8, IsCharBoundary-after_ascii}
 use Rattle.cg_base.specs.Sets.{IsId}
 use Rattle.cg_text.specs.Tokens.{is_passed_over}
 use Rattle.cg_action.specs.Print.{query_text, update_text}
@@ -18,8 +18,9 @@ use Rattle.cg_session.specs.declared.event.SessionEvent.{SessionEvent}
 use Rattle.cg_session.specs.declared.event.SessionEvent.TheVariants.{Begin, Write, Weak}
 use Rattle.cg_session.specs.Laws.{IsSessionEvent, PrintedAreRead}
 use Rattle.cg_session.specs.Print.{line_of}
-use Rattle.cg_session.proofs.Exact.{grouped, lines_exact}
+use Rattle.cg_session.proofs.Exact.{lines_exact}
 use Rattle.cg_session.proofs.Parts.{Known}
+use Rattle.cg_base.specs.TextLaws.{blank_parts, ascii_then}
 
 -- ---- where a text may be cut, and joined
 
@@ -36,13 +37,6 @@ behind_small front byte bytes small utf8 =
     ∙ drop_at (front ++ byte ∷ []) bytes (length front + 1) (length-append front (byte ∷ [])) in
     subst IsUtf8 rest (IsUtf8-drop text (length front + 1) utf8 cut)
 
-from_small : (byte : ℕ) (bytes : List ℕ) → byte < 128 → IsUtf8 bytes → IsUtf8 (byte ∷ bytes)
-from_small byte bytes small utf8 =
-    IsUtf8-append (byte ∷ []) bytes (IsUtf8-from_ascii (byte ∷ []) (one byte small)) utf8 where
-      one : (b : ℕ) → b < 128 → (k : ℕ) → get_or (b ∷ []) k 0 < 128
-      one b s zero = s
-      one b s (suc k) = omega arith
-
 -- a word with a blank behind it, and more
 with_word : (text rest : List ℕ) → is_utf8 (text ++ codes " ") ≡ true → IsUtf8 rest → IsUtf8 (text ++ 32 ∷ rest)
 with_word text rest word utf8 =
@@ -53,8 +47,8 @@ with_word text rest word utf8 =
 with_number : (s p rest : List ℕ) → IsUtf8 s → IsUtf8 ((p ++ codes " ") ++ rest) →
     IsUtf8 ((((s ++ codes " ") ++ p) ++ codes " ") ++ rest)
 with_number s p rest number utf8 =
-    let behind = from_small 32 ((p ++ codes " ") ++ rest) (omega arith) utf8 in
-    subst IsUtf8 (sym (grouped s p rest)) (IsUtf8-append s (32 ∷ ((p ++ codes " ") ++ rest)) number behind)
+    let behind = ascii_then 32 ((p ++ codes " ") ++ rest) (omega arith) utf8 in
+    subst IsUtf8 (sym (blank_parts s p rest)) (IsUtf8-append s (32 ∷ ((p ++ codes " ") ++ rest)) number behind)
 
 -- a schedule has begun
 abbrev pub going : ReaderState
