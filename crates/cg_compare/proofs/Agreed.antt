@@ -12,6 +12,7 @@ use Rattle.cg_compare.specs.Places.{Sighting, name_at, seen_in, seen_at, last_pl
 use Rattle.cg_compare.specs.Join.{differing, difference_in, first_difference, first_name}
 use Rattle.cg_compare.proofs.First.{some_is_none, none_has}
 use Rattle.cg_compare.proofs.Seeing.{seen_within}
+use Rattle.cg_base.specs.OptionLaws.{option_map_none}
 
 -- ---- all sightings have one name
 
@@ -28,10 +29,6 @@ all_same id [] e = tt
 all_same id (s ∷ more) e =
     let split = by_test (same_id id s.id) s (find (λ t. not (same_id id t.id)) more) e in
     (sym (same_id-is id s.id split.0), all_same id more split.1)
-
-pub none_mapped : {X Y : Type 0} (f : X → Y) (o : Option X) → option_map f o ≡ None → o ≡ None
-none_mapped f None e = refl
-none_mapped f (Some x) e = absurd (some_is_none e)
 
 -- ---- what a log has is seen
 
@@ -59,7 +56,7 @@ first_is : (place : ℕ) (logs : List Log) (ss : List Sighting) → seen_at logs
 first_is place logs [] seen none log name inside e =
     absurd (not_another name (seen_is (record { creator = name.creator; index = suc name.index }) place logs (subst (AllSame (record { creator = name.creator; index = suc name.index })) (sym seen) tt) log name inside.0 inside.1 inside.2 e))
 first_is place logs (s ∷ more) seen none log name inside e =
-    let same = all_same s.id more (none_mapped (differing place s) (find (λ t. not (same_id s.id t.id)) more) none) in
+    let same = all_same s.id more (option_map_none (differing place s) (find (λ t. not (same_id s.id t.id)) more) none) in
     ap Some (sym (seen_is s.id place logs (subst (AllSame s.id) (sym seen) (refl, same)) log name inside.0 inside.1 inside.2 e))
 
 -- where no two logs differ at a place, a name that is seen there is the one that is told of it

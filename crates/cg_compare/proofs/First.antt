@@ -1,8 +1,9 @@
 -- Which of the numbers from one on is the first that has a value, or passes a test.
-use Rattle.std.specs.Prelude.{◌≡◌, ◌<◌, ◌≤◌, ◌⊎◌, ◌+◌, ℕ, zero, suc, Bool, true, false, List, ◌∷◌, Option, Some, None, find, map, if◌then◌else◌}
+use Rattle.std.specs.Prelude.{◌≡◌, ◌<◌, ◌≤◌, ◌⊎◌, ◌+◌, ℕ, zero, suc, Bool, true, false, ◌∷◌, Option, Some, None, find, map, if◌then◌else◌}
 use Rattle.std.proofs.Common.{refl, sym, ap, ◌∙◌, arith, ⊎_elim, inl, inr}
 use Rattle.std.proofs.lemmas.Bool.{cases_eq, cases_Bool, cond-true, cond-false}
 use Rattle.cg_base.specs.Lists.{count_up, first_some}
+use Rattle.cg_base.specs.OptionLaws.{first_none}
 
 pub some_is_none : {X : Type 0} {x : X} → ◌≡◌ {A = Option X} (Some x) None → ⊥
 some_is_none e = cc
@@ -63,17 +64,12 @@ is_first f from (suc n) x at low high here before = ⊎_elim
     (λ q above below. before q (omega (arith, above)) below))
     (cases_eq at from)
 
-first_of_two : {X : Type 0} (o : Option X) (rest : List (Option X)) → first_some (o ∷ rest) ≡ None →
-    (o ≡ None) × (first_some rest ≡ None)
-first_of_two None rest e = (refl, e)
-first_of_two (Some x) rest e = absurd (some_is_none e)
-
 -- none is first of all just where none has a value
 pub none_has : {X : Type 0} (f : ℕ → Option X) (from n : ℕ) → first_some (map f (count_up from n)) ≡ None →
     (q : ℕ) → from ≤ q → q < from + n → f q ≡ None
 none_has f from zero e q low high = absurd (omega (arith, low, high))
 none_has f from (suc n) e q low high =
-    let parts = first_of_two (f from) (map f (count_up (suc from) n)) e in
+    let parts = first_none (f from) (map f (count_up (suc from) n)) e in
     ⊎_elim
     (λ (same : q ≡ from). ap f same ∙ parts.0)
     (λ (apart : q ≡ from → ⊥). none_has f (suc from) n parts.1 q (omega (arith, low, apart)) (omega (arith, high)))

@@ -1,5 +1,5 @@
 -- Logs that are parts of one order are told to agree.
-use Rattle.std.specs.Prelude.{◌≡◌, ◌<◌, ◌+◌, ◌-◌, ℕ, zero, suc, Bool, true, false, not, List, [], ◌∷◌, Option, Some, None, Contains, find, length, map, slice_get, option_map, option_and_then}
+use Rattle.std.specs.Prelude.{◌≡◌, ◌<◌, ◌+◌, ◌-◌, ℕ, zero, suc, Bool, false, not, List, [], ◌∷◌, Option, Some, None, Contains, find, length, map, slice_get, option_map, option_and_then}
 use Rattle.std.specs.Option.{option_map_or}
 use Rattle.std.proofs.Common.{refl, sym, ap, ap₂, subst, ◌∙◌, arith}
 use Rattle.cg_base.specs.declared.action_id.ActionId.{ActionId}
@@ -11,6 +11,9 @@ use Rattle.cg_compare.specs.declared.log.Joined.TheVariants.{Agree, Twice}
 use Rattle.cg_compare.specs.Places.{Sighting, name_at, seen_in, seen_at, places_of, last_place}
 use Rattle.cg_compare.specs.Join.{difference_in, first_difference, first_name, covered, name_in, stands_at, earlier_place, repeat_at, first_repeat, join_logs}
 use Rattle.cg_compare.specs.Orders.{AgreesWith, IsOrderOf}
+use Rattle.std.proofs.lemmas.Bool.{false_from_ne_true}
+use Rattle.std.proofs.lemmas.Option.{same_Some}
+use Rattle.cg_base.specs.OptionLaws.{one_value}
 
 -- the order agrees with each of the logs
 abbrev AgreeAll : List ActionId → List Log → Type 0
@@ -40,12 +43,9 @@ seen_are_named order place (l ∷ logs) h = with_sighting order place l.line (na
 not_other : (a b : ActionId) → a ≡ b → not (same_id a b) ≡ false
 not_other a b e = subst (λ x. not (same_id a x) ≡ false) e (ap not (same_id-self a))
 
-some_same : (o : Option ActionId) (a b : ActionId) → o ≡ Some a → o ≡ Some b → a ≡ b
-some_same o a b x y = ap (λ z. option_map_or (λ n. n) z a) (sym x ∙ y)
-
 none_other : (order : List ActionId) (place : ℕ) (id : ActionId) (more : List Sighting) → at_place order place ≡ Some id → AreNamed order place more → find (λ s. not (same_id id s.id)) more ≡ None
 none_other order place id [] here h = refl
-none_other order place id (s ∷ more) here h = rw (not_other id s.id (some_same (at_place order place) id s.id here h.0)) (none_other order place id more here h.1)
+none_other order place id (s ∷ more) here h = rw (not_other id s.id (one_value (at_place order place) id s.id here h.0)) (none_other order place id more here h.1)
 
 no_difference_in : (order : List ActionId) (place : ℕ) (ss : List Sighting) → AreNamed order place ss → difference_in place ss ≡ None
 no_difference_in order place [] h = refl
@@ -64,13 +64,10 @@ no_difference logs order o =
 no_some : {X : Type 0} {x : X} → ◌≡◌ {A = Option X} None (Some x) → ⊥
 no_some e = cc
 
-some_is : {X : Type 0} (a b : X) → Some a ≡ Some b → a ≡ b
-some_is a b e = ap (λ o. option_map_or (λ z. z) o a) e
-
 -- what a map over the numbers from one on has at a place
 pub mapped_at : {X : Type 0} (f : ℕ → X) (from n k : ℕ) (x : X) → slice_get (map f (count_up from n)) k ≡ Some x → x ≡ f (from + k)
 mapped_at f from zero k x e = absurd (no_some e)
-mapped_at f from (suc n) zero x e = sym (some_is (f from) x e) ∙ ap f (omega arith)
+mapped_at f from (suc n) zero x e = sym (same_Some (f from) x e) ∙ ap f (omega arith)
 mapped_at f from (suc n) (suc k) x e = mapped_at f (suc from) n k x e ∙ ap f (omega arith)
 
 pub covered_at : (logs : List Log) (q : ℕ) (name : Option ActionId) → at_place (covered logs) q ≡ Some name → name ≡ first_name (seen_at logs q)
@@ -93,13 +90,9 @@ name_is logs order agree q id e =
     first_is_named order q (seen_at logs q) id (seen_are_named order q logs agree)
     (in_cell (first_name (seen_at logs q)) id (at_place (covered logs) q) (covered_at logs q) e)
 
-is_false : (b : Bool) → (b ≡ true → ⊥) → b ≡ false
-is_false true h = absurd (h refl)
-is_false false h = refl
-
 not_the_name : (id : ActionId) (name : Option ActionId) → ((other : ActionId) → name ≡ Some other → id ≡ other → ⊥) → option_map_or (same_id id) name false ≡ false
 not_the_name id None h = refl
-not_the_name id (Some other) h = is_false (same_id id other) (λ e. h other refl (same_id-is id other e))
+not_the_name id (Some other) h = false_from_ne_true (same_id id other) (λ e. h other refl (same_id-is id other e))
 
 none_found : (p : ℕ → Bool) (from n : ℕ) → ((q : ℕ) → q < from + n → p q ≡ false) → find p (count_up from n) ≡ None
 none_found p from zero h = refl

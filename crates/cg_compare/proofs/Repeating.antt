@@ -1,5 +1,5 @@
 -- What is told of a name that stands at two places is so.
-use Rattle.std.specs.Prelude.{◌≡◌, ◌<◌, ◌≤◌, ◌+◌, ◌-◌, ℕ, zero, suc, true, false, List, Option, Some, None, length, map, option_map, option_and_then, slice_get}
+use Rattle.std.specs.Prelude.{◌≡◌, ◌<◌, ◌≤◌, ◌-◌, ℕ, zero, suc, true, false, List, Option, Some, None, length, map, option_map, option_and_then}
 use Rattle.std.specs.Option.{option_map_or}
 use Rattle.std.proofs.Common.{refl, sym, ap, subst, ◌∙◌, arith}
 use Rattle.std.proofs.lemmas.Option.{same_Some}
@@ -8,7 +8,7 @@ use Rattle.cg_base.specs.declared.action_id.ActionId.{ActionId}
 use Rattle.cg_base.specs.Ids.{same_id}
 use Rattle.cg_base.specs.IdLaws.{same_id-is, same_id-self}
 use Rattle.cg_base.specs.Lists.{at_place, count_up}
-use Rattle.cg_base.specs.ListLaws.{length-count_up}
+use Rattle.cg_base.specs.ListLaws.{length-count_up, slice_get-count_up}
 use Rattle.cg_compare.specs.declared.log.Log.{Log}
 use Rattle.cg_compare.specs.declared.log.Joined.{Joined}
 use Rattle.cg_compare.specs.declared.log.Joined.TheVariants.{Twice}
@@ -17,8 +17,9 @@ use Rattle.cg_compare.specs.Places.{seen_at, last_place, places_of}
 use Rattle.cg_compare.specs.Join.{first_difference, first_name, covered, name_in, stands_at, earlier_place, repeat_at, first_repeat}
 use Rattle.cg_compare.proofs.First.{some_is_none, true_is_false, first_has, found_is, none_passes}
 use Rattle.cg_compare.proofs.Seeing.{seen_first, seen_within}
-use Rattle.cg_compare.proofs.Agreed.{no_difference_at, one_name, seen_is_told, none_mapped}
+use Rattle.cg_compare.proofs.Agreed.{no_difference_at, one_name, seen_is_told}
 use Rattle.cg_compare.proofs.OneOrder.{covered_at, in_cell, no_repeat}
+use Rattle.cg_base.specs.OptionLaws.{option_map_none}
 
 -- ---- the names at the places
 
@@ -31,15 +32,10 @@ pub named_is_seen : (logs : List Log) (q : ℕ) (id : ActionId) → name_in (cov
 named_is_seen logs q id e =
     seen_first logs q id (in_cell (first_name (seen_at logs q)) id (at_place (covered logs) q) (covered_at logs q) e)
 
-get_mapped : {X : Type 0} (f : ℕ → X) (from n k : ℕ) → k < n → slice_get (map f (count_up from n)) k ≡ Some (f (from + k))
-get_mapped f from zero k below = absurd (omega (arith, below))
-get_mapped f from (suc n) zero below = ap (λ q. Some (f q)) (omega arith)
-get_mapped f from (suc n) (suc k) below = get_mapped f (suc from) n k (omega (arith, below)) ∙ ap (λ q. Some (f q)) (omega arith)
-
 -- what stands at a place of a map over the places
 pub place_mapped : {X : Type 0} (f : ℕ → X) (n q : ℕ) → 1 ≤ q → q ≤ n → at_place (map f (count_up 1 n)) q ≡ Some (f q)
 place_mapped f n zero low high = absurd (omega (arith, low))
-place_mapped f n (suc k) low high = get_mapped f 1 n k (omega (arith, high)) ∙ ap (λ q. Some (f q)) (omega arith)
+place_mapped f n (suc k) low high = slice_get-count_up f 1 n k (omega (arith, high)) ∙ ap (λ q. Some (f q)) (omega arith)
 
 -- a name that is seen is in the list, where no two logs differ
 pub seen_is_named : (logs : List Log) → first_difference logs ≡ None → (q : ℕ) (id : ActionId) → IsSeen logs q id →
@@ -85,7 +81,7 @@ pub not_repeated : (list : List (Option ActionId)) (p q : ℕ) (id : ActionId) �
 not_repeated list p q id none low below here there =
     let open_ : option_map (λ earlier. Twice id earlier q) (earlier_place list q id) ≡ None =
     sym (ap (option_and_then (λ n. option_map (λ earlier. Twice n earlier q) (earlier_place list q n))) there) ∙ none in
-    let nowhere = none_mapped (λ earlier. Twice id earlier q) (earlier_place list q id) open_ in
+    let nowhere = option_map_none (λ earlier. Twice id earlier q) (earlier_place list q id) open_ in
     true_is_false (stands list id p here) (none_passes (stands_at list id) 1 (q - 1) nowhere p low (omega (arith, low, below)))
 
 pub repeat_is_told : (logs : List Log) (j : Joined) → first_difference logs ≡ None → first_repeat (covered logs) ≡ Some j →

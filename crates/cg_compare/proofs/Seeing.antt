@@ -10,6 +10,7 @@ use Rattle.cg_compare.specs.Join.{first_name}
 use Rattle.cg_compare.specs.Orders.{IsSeen, IsCovered, IsLast}
 use Rattle.cg_compare.specs.Places.{name_at, seen_in, seen_at, end_of, last_place}
 use Rattle.cg_compare.proofs.First.{some_is_none}
+use Rattle.cg_base.specs.ListLaws.{fold_max-from}
 
 -- ---- one more log
 
@@ -48,16 +49,12 @@ end_is w (x ∷ xs) some = refl
 
 -- ---- the last place
 
-fold_from : (m : ℕ) (ns : List ℕ) → m ≤ fold max m ns
-fold_from m [] = omega arith
-fold_from m (n ∷ ns) = omega (arith, fold_from (max m n) ns)
-
 end_within : (m : ℕ) (logs : List Log) (log : Log) (k : ℕ) → k < length logs → slice_index_or logs k log ≡ log →
     end_of log ≤ fold max m (map end_of logs)
 end_within m [] log k below at = absurd (omega (arith, below))
 end_within m (l ∷ logs) log zero below at =
     let same : end_of l ≡ end_of log = ap end_of at in
-    omega (arith, same, fold_from (max m (end_of l)) (map end_of logs))
+    omega (arith, same, fold_max-from (max m (end_of l)) (map end_of logs))
 end_within m (l ∷ logs) log (suc k) below at = end_within (max m (end_of l)) logs log k (omega (arith, below)) at
 
 -- a place that is covered is one of those up to the last one

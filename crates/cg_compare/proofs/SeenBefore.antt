@@ -9,6 +9,7 @@ use Rattle.cg_base.specs.IdLaws.{same_id-is}
 use Rattle.cg_compare.specs.declared.log.Joined.TheVariants.{Twice}
 use Rattle.cg_compare.specs.declared.seen.Seen.{Seen}
 use Rattle.cg_compare.specs.Seen.{place_among, unless_elsewhere, repeat_after}
+use Rattle.cg_base.specs.OptionLaws.{option_or_none}
 
 abbrev place_of : Seen → ℕ
 place_of s = s.place
@@ -29,10 +30,6 @@ among_push [] s id = alone (same_id id s.id) s
 among_push (t ∷ done) s id = by_head (same_id id t.id) t (find (λ u. same_id id u.id) (done ++ s ∷ []))
     (find (λ u. same_id id u.id) done) (if same_id id s.id then Some s.place else None) (among_push done s id)
 
-or_none : (o : Option ℕ) → option_or o None ≡ o
-or_none None = refl
-or_none (Some x) = refl
-
 -- the map with a name that it lacked
 pub known_new : (done : List Seen) (s : Seen) (old new : ActionId → Option ℕ) →
     ((id : ActionId) → old id ≡ place_among done id) → place_among done s.id ≡ None →
@@ -47,7 +44,7 @@ known_new done s old new known none puts id = puts id ∙ ⊎_elim
     (λ (no_ : same_id id s.id ≡ false).
     cond-false (same_id id s.id) (Some s.place) (old id) no_ ∙ known id
     ∙ sym (among_push done s id
-    ∙ ap (option_or (place_among done id)) (cond-false (same_id id s.id) (Some s.place) None no_) ∙ or_none (place_among done id)))
+    ∙ ap (option_or (place_among done id)) (cond-false (same_id id s.id) (Some s.place) None no_) ∙ option_or_none (place_among done id)))
     (cases_Bool (same_id id s.id))
 
 -- the map that had the name
@@ -60,7 +57,7 @@ known_old done s old place known some id = known id ∙ ⊎_elim
     some_here ∙ sym (among_push done s id ∙ ap (λ o. option_or o (if same_id id s.id then Some s.place else None)) some_here))
     (λ (no_ : same_id id s.id ≡ false).
     sym (among_push done s id
-    ∙ ap (option_or (place_among done id)) (cond-false (same_id id s.id) (Some s.place) None no_) ∙ or_none (place_among done id)))
+    ∙ ap (option_or (place_among done id)) (cond-false (same_id id s.id) (Some s.place) None no_) ∙ option_or_none (place_among done id)))
     (cases_Bool (same_id id s.id))
 
 -- what is left of the walk

@@ -14,12 +14,9 @@ use Rattle.cg_compare.specs.declared.seen.Seen.{Seen}
 use Rattle.cg_compare.specs.Places.{Sighting, seen_in, seen_at}
 use Rattle.cg_compare.specs.Seen.{names_behind, names_in, all_names, sighting, seen_among, AreFrom, Ascend, ArePlaced}
 use Rattle.cg_compare.proofs.PlacedDifference.{hit, miss, none_below}
+use Rattle.cg_base.specs.ListLaws.{at_place-nil}
 
 -- ---- what is seen among all names
-
-at_nothing : {X : Type 0} (n : ℕ) → at_place {X = X} [] n ≡ None
-at_nothing zero = refl
-at_nothing (suc n) = refl
 
 are_from : (line low place : ℕ) (ids : List ActionId) → low ≤ place + 1 → AreFrom low (names_behind line place ids)
 are_from line low place [] le = tt
@@ -30,7 +27,7 @@ sight line id = record { line = line; id = id }
 
 in_log : (line q place : ℕ) (ids : List ActionId) →
     seen_among (names_behind line place ids) q ≡ present (option_map (sight line) (at_place ids (q - place)) ∷ [])
-in_log line q place [] = ap (λ o. present (option_map (sight line) o ∷ [])) (sym (at_nothing (q - place)))
+in_log line q place [] = ap (λ o. present (option_map (sight line) o ∷ [])) (sym (at_place-nil (q - place)))
 in_log line q place (id ∷ ids) = ⊎_elim
     (λ (here : place + 1 ≡ q).
     let first : 1 ≡ q - place = omega (arith, here) in
