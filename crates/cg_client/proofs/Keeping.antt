@@ -1,5 +1,5 @@
 -- A mark keeps all that is known within the limits.
-use Rattle.std.specs.Prelude.{◌≡◌, ◌≤◌, ◌<◌, ◌^◌, ℕ, zero, suc, ◌==◌, nat_le, nat_lt, Bool, true, false, not, ◌&&◌, List, [], ◌∷◌, ◌++◌, find, filter, slice_get, Option, Some, None, Result, Ok, Err, IfSome, MatchOption, OnOk, OnErr, if◌then◌else◌}
+use Rattle.std.specs.Prelude.{◌≡◌, ◌≤◌, ◌<◌, ◌^◌, ℕ, zero, suc, ◌==◌, nat_le, nat_lt, Bool, true, false, not, ◌&&◌, List, [], ◌∷◌, ◌++◌, filter, Option, Some, None, Result, Ok, Err, IfSome, MatchOption, OnOk, OnErr, if◌then◌else◌}
 use Rattle.std.proofs.Common.{subst, sym, inl, inr, arith}
 use Rattle.std.proofs.lemmas.Bool.{cases_Bool, or_cases, and_parts, eqb-true}
 use Rattle.cg_base.specs.declared.action_id.ActionId.{ActionId}
@@ -16,10 +16,8 @@ use Rattle.cg_queue.specs.declared.mark.QueueFault.{QueueFault}
 use Rattle.cg_queue.specs.declared.mark.QueueFault.TheVariants.{Gap, NoMemory}
 use Rattle.cg_queue.specs.Answers.{Answers, AreReds}
 use Rattle.cg_client.specs.Kept.{AreKept}
-
-Each-append : {X : Type 0} (P : X → Type 0) (xs ys : List X) → Each P xs → Each P ys → Each P (xs ++ ys)
-Each-append P [] ys each more = more
-Each-append P (x ∷ xs) ys each more = (each.0, Each-append P xs ys each.1 more)
+use Rattle.cg_base.specs.EachLaws.{Each-get, Each-append}
+use Rattle.cg_base.specs.FindLaws.{found_each}
 
 pub Each-filter : {X : Type 0} (test : X → Bool) (P : X → Type 0) (xs : List X) → Each P xs → Each P (filter test xs)
 Each-filter test P [] each = tt
@@ -140,15 +138,8 @@ pub renamed-kept : (q : QueueView) (ids : List ActionId) → AreKept q → AreRe
 renamed-kept q ids kept reds =
     record { greens = kept.greens; reds = kept.reds; green_cut = kept.green_cut; red_cut = kept.red_cut; yellow = reds_named q ids kept.reds reds }
 
-found_in : (P : Action → Type 0) (test : Action → Bool) (xs : List Action) → Each P xs → IfSome (find test xs) P
-found_in P test [] all = tt
-found_in P test (x ∷ xs) all = elim (cases_Bool (test x)) [
-  | inl yes' ↦ rw yes' all.0
-  | inr no' ↦ rw no' (found_in P test xs all.1)
-]
-
 pub found : (q : QueueView) (id : ActionId) → AreKept q → IfSome (action_of q id) IsAction
-found q id kept = found_in IsAction (λ a. same_id a.id id) (q.greens ++ q.reds) (Each-append IsAction q.greens q.reds kept.greens kept.reds)
+found q id kept = found_each IsAction (λ a. same_id a.id id) (q.greens ++ q.reds) (Each-append IsAction q.greens q.reds kept.greens kept.reds)
 
 -- and so is what a call leaves
 answer_keeps : (m : Marking) (old new : QueueView) (r : Result Mark QueueFault) → AreKept old → Keeps m → Answers m old new r → AreKept new
@@ -177,11 +168,6 @@ pub after_names : {E : Type 0} (old new : QueueView) (ids : List ActionId) (r : 
     → AreKept old → AreReds old ids → OnOk r (new ≡ record old { yellow = ids }) → OnErr r (new ≡ old) → AreKept new
 after_names old new ids (Ok u) kept reds e same = subst AreKept (sym e) (renamed-kept old ids kept reds)
 after_names old new ids (Err fault) kept reds e same = subst AreKept (sym same) kept
-
-pub Each-get : {X : Type 0} (P : X → Type 0) (xs : List X) (i : ℕ) → Each P xs → IfSome (slice_get xs i) P
-Each-get P [] i all = tt
-Each-get P (x ∷ xs) zero all = all.0
-Each-get P (x ∷ xs) (suc i) all = Each-get P xs i all.1
 
 pub kept-at : (greens : List Action) (at : ℕ) → Each IsAction greens → IfSome (at_place greens at) IsAction
 kept-at greens zero all = tt

@@ -1,6 +1,6 @@
 -- What holds of the members that green actions make.
-use Rattle.std.proofs.Common.{◌≡◌, ℕ, suc, ◌+◌, ◌≤◌, ◌≢◌, ◌||◌, ◌⊎◌, List, [], ◌∷◌, ◌++◌, map, length, min, Bool, true, false, eqb, refl, sym, ap, ◌∙◌, arith, inl, inr}
-use Rattle.std.proofs.lemmas.Bool.{cases_eq, cases_order, cases_Bool, eq-eqb, ne_eqb, eqb-true, lt-ltb, le-ltb, or_parts, or_cases, or_from, true≢false}
+use Rattle.std.proofs.Common.{◌≡◌, ℕ, suc, ◌+◌, ◌≤◌, ◌≢◌, ◌||◌, ◌⊎◌, List, [], ◌∷◌, ◌++◌, map, length, min, true, eqb, refl, sym, ap, ◌∙◌, arith, inl, inr}
+use Rattle.std.proofs.lemmas.Bool.{cases_eq, cases_order, cases_Bool, eq-eqb, ne_eqb, eqb-true, lt-ltb, le-ltb, or_parts, or_cases, or_from, true≢false, or_right}
 use Rattle.cg_base.specs.declared.weighted.Weighted.{Weighted}
 use Rattle.cg_base.specs.Sets.{has}
 use Rattle.cg_base.specs.SetLaws.{has-with_member}
@@ -57,15 +57,11 @@ is_among-with_server (s ∷ servers) new q here = elim (cases_order new.id s.id)
           | inl own ↦ inr (rw own)
           | inr other ↦ elim (is_among-with_server servers new q other) [
             | inl same ↦ inl same
-            | inr old ↦ inr (or_second (eqb s.id q) (is_among servers q) old)
+            | inr old ↦ inr (or_right (eqb s.id q) (is_among servers q) old)
           ]
         ]
   ]
 ]
-  where
-    or_second : (a b : Bool) → b ≡ true → (a || b) ≡ true
-    or_second true b e = refl
-    or_second false b e = e
 
 pub is_among-without : (servers : List Server) (p q : ℕ) → is_among (without_server servers p) q ≡ true →
     (is_among servers q ≡ true) × (q ≢ p)
@@ -73,19 +69,15 @@ is_among-without [] p q here = absurd (true≢false (sym here))
 is_among-without (s ∷ servers) p q here = elim (cases_eq s.id p) [
   | inl same ↦
       let rest = is_among-without servers p q (rw (eq-eqb s.id p same) at here) in
-      (or_second (eqb s.id q) (is_among servers q) rest.0, rest.1)
+      (or_right (eqb s.id q) (is_among servers q) rest.0, rest.1)
   | inr apart ↦
       let now : (eqb s.id q || is_among (without_server servers p) q) ≡ true = rw (ne_eqb s.id p apart) at here in
       elim (or_cases (eqb s.id q) (is_among (without_server servers p) q) now) [
         | inl own ↦ let equal : s.id ≡ q = eqb-true s.id q own in (rw own, λ e. apart (equal ∙ e))
         | inr other ↦ let rest = is_among-without servers p q other in
-            (or_second (eqb s.id q) (is_among servers q) rest.0, rest.1)
+            (or_right (eqb s.id q) (is_among servers q) rest.0, rest.1)
       ]
 ]
-  where
-    or_second : (a b : Bool) → b ≡ true → (a || b) ≡ true
-    or_second true b e = refl
-    or_second false b e = e
 
 pub is_among-with_line : (servers : List Server) (p line q : ℕ) →
     is_among (map (with_line p line) servers) q ≡ is_among servers q
