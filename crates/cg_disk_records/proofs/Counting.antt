@@ -13,11 +13,7 @@ use Rattle.cg_base.specs.Replicas.{every_replica}
 use Rattle.cg_action.specs.declared.action.Action.{Action}
 use Rattle.cg_disk_records.specs.Parts.{next_index, reds_count}
 use Rattle.cg_disk_records.proofs.Agreeing.{counts-left, counts-stop, counts-end}
-
--- tests that say the same
-all-same : (f g : ℕ → Bool) → ((q : ℕ) → f q ≡ g q) → (qs : List ℕ) → list_all f qs ≡ list_all g qs
-all-same f g same [] = refl
-all-same f g same (q ∷ qs) = λ i. same q i && all-same f g same qs i
+use Rattle.cg_base.specs.EachLaws.{list_all_same}
 
 regroup : (a b c d : Bool) → ((a && b) && (c && d)) ≡ ((a && c) && (b && d))
 regroup true true c d = regroup-right c d
@@ -64,7 +60,7 @@ module _ (a : Action) (at to : List ActionId) where
     pub reds-left : IsCut at → index_in at a.id.creator < index_in to a.id.creator → a.id.index ≡ index_in at a.id.creator + 1
         → list_all (reds_count (drop (i + 1) reds) (raise at a.id) to) every_replica ≡ list_all (reds_count (drop i reds) at to) every_replica
     reds-left is below next =
-        all-same (reds_count (drop (i + 1) reds) (raise at a.id) to) (reds_count (drop i reds) at to)
+        list_all_same (reds_count (drop (i + 1) reds) (raise at a.id) to) (reds_count (drop i reds) at to)
         (λ q. counts-left reds i a q (index_in at q) (index_in to q) (index_in (raise at a.id) q) lt here (next-raised is below next q)) every_replica
 
     reds-stop : IsId a.id.creator → (ltb (index_in at a.id.creator) (index_in to a.id.creator) && eqb a.id.index (suc (index_in at a.id.creator))) ≡ false
@@ -96,4 +92,4 @@ module _ (a : Action) (at to : List ActionId) where
 pub reds-end : (reds : List Action) (i : ℕ) (at to : List ActionId) → length reds ≤ i
     → list_all (reds_count (drop i reds) at to) every_replica ≡ list_all (λ p. leb (index_in to p) (index_in at p)) every_replica
 reds-end reds i at to le =
-    all-same (reds_count (drop i reds) at to) (λ p. leb (index_in to p) (index_in at p)) (λ q. counts-end reds i q (index_in at q) (index_in to q) le) every_replica
+    list_all_same (reds_count (drop i reds) at to) (λ p. leb (index_in to p) (index_in at p)) (λ q. counts-end reds i q (index_in at q) (index_in to q) le) every_replica

@@ -36,15 +36,6 @@ Each-at P [] i y each lt = absurd (omega arith)
 Each-at P (x ∷ xs) zero y each lt = each.0
 Each-at P (x ∷ xs) (suc i) y each lt = Each-at P xs i y each.1 (omega (arith, lt))
 
--- both of two lists
-pub Each-front : {X : Type 0} (P : X → Type 0) (xs ys : List X) → Each P (xs ++ ys) → Each P xs
-Each-front P [] ys each = tt
-Each-front P (x ∷ xs) ys each = (each.0, Each-front P xs ys each.1)
-
-pub Each-rest : {X : Type 0} (P : X → Type 0) (xs ys : List X) → Each P (xs ++ ys) → Each P ys
-Each-rest P [] ys each = each
-Each-rest P (x ∷ xs) ys each = Each-rest P xs ys each.1
-
 -- ---- fields
 
 -- a list of at most so many things, each of which is one of these

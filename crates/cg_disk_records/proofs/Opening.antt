@@ -1,10 +1,10 @@
 -- What holds of a replica holds of a checkpoint whose parts agree, and is kept by each change that fits.
-use Rattle.std.proofs.Common.{◌⊎◌, ◌≡◌, ℕ, zero, suc, ◌+◌, ◌-◌, ◌≤◌, ◌≢◌, List, [], ◌∷◌, ◌++◌, length, max, map, cond, Bool, true, false, not, ◌&&◌, Option, Some, None, refl, sym, ap, ap₂, ◌∙◌, subst, arith, inl, inr, eqb-true, nat_le, leb-true}
+use Rattle.std.proofs.Common.{◌⊎◌, ◌≡◌, ℕ, zero, suc, ◌+◌, ◌-◌, ◌≤◌, ◌≢◌, List, [], ◌∷◌, ◌++◌, length, max, map, cond, true, false, not, ◌&&◌, Option, Some, None, refl, sym, ap, ap₂, ◌∙◌, subst, arith, inl, inr, eqb-true, nat_le, leb-true}
 use Rattle.std.specs.Prelude.{◌==◌, nat_eq, option_and_then}
 use Rattle.std.specs.Cmp.Lexicographic.{pointwise}
 use Rattle.std.specs.List.{list_all}
-use Rattle.std.proofs.lemmas.Bool.{cases_eq, cases_order, cases_Bool, eq-eqb, ne_eqb, and_parts, and_from}
-use Rattle.std.proofs.lemmas.Option.{none-some}
+use Rattle.std.proofs.lemmas.Bool.{cases_eq, cases_order, cases_Bool, eq-eqb, ne_eqb, and_parts, and_from, not-true}
+use Rattle.std.proofs.lemmas.Option.{none-some, same_Some}
 use Rattle.cg_base.specs.declared.action_id.ActionId.{ActionId}
 use Rattle.cg_base.specs.Cuts.{index_in, raise, creators_in}
 use Rattle.cg_base.specs.Ids.{id_before}
@@ -32,7 +32,7 @@ use Rattle.cg_disk_records.specs.HeldLaws.{are_of}
 use Rattle.cg_disk_records.specs.ValueLaws.{one-list, one-number}
 use Rattle.cg_disk_records.specs.HoldsMarkLaws.{known_by, holds-known, holds-green}
 use Rattle.cg_disk_records.specs.HoldsValueLaws.{holds-values, holds-made, holds-whiten}
-use Rattle.cg_disk_records.specs.KnownLaws.{fits-next, some-same, none-all, greened-from}
+use Rattle.cg_disk_records.specs.KnownLaws.{fits-next, none-all, greened-from}
 use Rattle.cg_disk_records.proofs.Settling.{mine-indexes}
 
 -- ---- a change that fits
@@ -41,7 +41,7 @@ abbrev KeepsHolds : {A : Type 0} → (Stored → A → Option Stored) → Type 0
 KeepsHolds {A} go = (x y : Stored) (item : A) → Holds x → go x item ≡ Some y → Holds y
 
 all-kept : {A : Type 0} (go : Stored → A → Option Stored) → KeepsHolds go → (items : List A) (x y : Stored) → Holds x → all_of go (Some x) items ≡ Some y → Holds y
-all-kept go keeps [] x y is e = subst Holds (some-same x y e) is
+all-kept go keeps [] x y is e = subst Holds (same_Some x y e) is
 all-kept go keeps (item ∷ items) x y is e = at (go x item) refl e (λ z z_holds rest. all-kept go keeps items z y z_holds rest) where
   at : (o : Option Stored) → go x item ≡ o → all_of go o items ≡ Some y → ((z : Stored) → Holds z → all_of go (Some z) items ≡ Some y → Holds y) → Holds y
   at None f rest more = absurd (none-some y (sym (none-all go items) ∙ rest))
@@ -49,7 +49,7 @@ all-kept go keeps (item ∷ items) x y is e = at (go x item) refl e (λ z z_hold
 
 know-kept : KeepsHolds know
 know-kept x y a is e = elim (cases_Bool (fits_known x a)) [
-  | inl fits ↦ subst Holds (some-same (known_by x a) y (sym (ap (λ b. cond b (Some (known_by x a)) None) fits) ∙ e)) (holds-known x is a (fits-next x a fits))
+  | inl fits ↦ subst Holds (same_Some (known_by x a) y (sym (ap (λ b. cond b (Some (known_by x a)) None) fits) ∙ e)) (holds-known x is a (fits-next x a fits))
   | inr none ↦ absurd (none-some y (sym (ap (λ b. cond b (Some (known_by x a)) None) none) ∙ e))
 ]
 
@@ -63,7 +63,7 @@ make-kept x y a is e =
     elim (cases_Bool test) [
       | inl fits ↦
           let parts = and_parts (a.id.creator == x.id) (a.id.index == suc (created x)) fits in
-          subst Holds (some-same made y (sym (ap (λ b. cond b (Some made) None) fits) ∙ e))
+          subst Holds (same_Some made y (sym (ap (λ b. cond b (Some made) None) fits) ∙ e))
           (holds-made x a x.owed (eqb-true a.id.creator x.id parts.0) (eqb-true a.id.index (suc (created x)) parts.1) is)
       | inr none ↦ absurd (none-some y (sym (ap (λ b. cond b (Some made) None) none) ∙ e))
     ]
@@ -75,7 +75,7 @@ values-kept v x y is e =
     elim (cases_Bool test) [
       | inl fits ↦
           let parts = and_parts (are_yellow x.queue v.yellow.list) (v.created == created x) fits in
-          subst Holds (some-same new y (sym (ap (λ b. cond b (Some new) None) fits) ∙ e))
+          subst Holds (same_Some new y (sym (ap (λ b. cond b (Some new) None) fits) ∙ e))
           (holds-whiten (put_values x v) (holds-values x v.yellow.list v.yellow.valid v.prim v.attempt_index v.vulnerable x.buffered parts.0 is))
       | inr none ↦ absurd (none-some y (sym (ap (λ b. cond b (Some new) None) none) ∙ e))
     ]
@@ -221,14 +221,10 @@ present-apart count left [] p all among = absurd (let clash : false ≡ true = a
 present-apart count left (s ∷ servers) p all among =
     let parts = and_parts (is_present count left s) (list_all (is_present count left) servers) all in
     elim (cases_eq s.id p) [
-      | inl same ↦ ap (has left) (sym same) ∙ none (has left s.id) (and_parts (nat_le s.line count) (not (has left s.id)) parts.0).1
+      | inl same ↦ ap (has left) (sym same) ∙ not-true (has left s.id) (and_parts (nat_le s.line count) (not (has left s.id)) parts.0).1
       | inr apart ↦ present-apart count left servers p parts.1 (rest apart among)
     ]
   where
-    none : (b : Bool) → not b ≡ true → b ≡ false
-    none true e = absurd (let clash : false ≡ true = e in cc)
-    none false e = refl
-
     rest : s.id ≢ p → is_among (s ∷ servers) p ≡ true → is_among servers p ≡ true
     rest apart e = rw (ne_eqb s.id p apart) at e
 

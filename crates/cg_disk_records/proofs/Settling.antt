@@ -1,9 +1,9 @@
 -- What a commit leaves has a checkpoint: its parts agree.
-use Rattle.std.proofs.Common.{◌≡◌, ℕ, suc, ◌+◌, ◌-◌, ◌≤◌, List, [], ◌∷◌, length, max, map, Bool, true, false, not, ◌||◌, refl, sym, ap, ap₂, ◌∙◌, arith, inl, inr, nat_le}
+use Rattle.std.proofs.Common.{◌≡◌, ℕ, suc, ◌+◌, ◌-◌, ◌≤◌, List, [], ◌∷◌, length, max, map, Bool, true, false, not, refl, sym, ap, ap₂, ◌∙◌, arith, inl, inr, nat_le}
 use Rattle.std.specs.Prelude.{◌==◌, nat_eq}
 use Rattle.std.specs.Cmp.Lexicographic.{pointwise}
 use Rattle.std.specs.List.{list_all}
-use Rattle.std.proofs.lemmas.Bool.{cases_eq, eq-eqb, ne_eqb, le-leb, and_parts, and_from}
+use Rattle.std.proofs.lemmas.Bool.{cases_eq, eq-eqb, ne_eqb, le-leb, and_parts, and_from, or_right, or_left}
 use Rattle.cg_base.specs.declared.action_id.ActionId.{ActionId}
 use Rattle.cg_base.specs.Cuts.{index_in, raise}
 use Rattle.cg_base.specs.Ids.{id_before}
@@ -95,16 +95,8 @@ all-present : (count : ℕ) (left : List ℕ) (servers : List Server) → ((p : 
 all-present count left [] apart lines = refl
 all-present count left (s ∷ servers) apart lines =
     and_from (is_present count left s) (list_all (is_present count left) servers)
-    (and_from (nat_le s.line count) (not (has left s.id)) (le-leb s.line count lines.0) (ap not (apart s.id (here (s.id == s.id) (is_among servers s.id) (eq-eqb s.id s.id refl)))))
-    (all-present count left servers (λ p among. apart p (there (s.id == p) (is_among servers p) among)) lines.1)
-  where
-    here : (x y : Bool) → x ≡ true → (x || y) ≡ true
-    here true y e = refl
-    here false y e = absurd (let clash : false ≡ true = e in cc)
-
-    there : (x y : Bool) → y ≡ true → (x || y) ≡ true
-    there true y e = refl
-    there false y e = e
+    (and_from (nat_le s.line count) (not (has left s.id)) (le-leb s.line count lines.0) (ap not (apart s.id (or_left (s.id == s.id) (is_among servers s.id) (eq-eqb s.id s.id refl)))))
+    (all-present count left servers (λ p among. apart p (or_right (s.id == p) (is_among servers p) among)) lines.1)
 
 by-name : (reds : List Action) → ascend (names_of reds) ≡ true → is_by_name reds ≡ true
 by-name [] up = refl

@@ -1,8 +1,8 @@
 -- What holds of what a replica holds, behind a red mark and behind a green one.
-use Rattle.std.proofs.Common.{◌≡◌, ℕ, suc, ◌+◌, ◌<◌, ◌≤◌, ◌≢◌, List, [], ◌∷◌, ◌++◌, length, Bool, true, false, not, ◌||◌, max, fold, refl, sym, ap, ◌∙◌, subst, arith, inl, inr, length-append, sum_by}
+use Rattle.std.proofs.Common.{◌≡◌, ℕ, suc, ◌+◌, ◌<◌, ◌≤◌, ◌≢◌, List, [], ◌∷◌, ◌++◌, length, Bool, true, false, not, max, fold, refl, sym, ap, ◌∙◌, subst, arith, inl, inr, length-append, sum_by}
 use Rattle.std.specs.Prelude.{◌==◌}
 use Rattle.std.specs.List.{list_all}
-use Rattle.std.proofs.lemmas.Bool.{cases_eq, cases_order, cases_Bool, eq-eqb, ne_eqb, lt-ltb, le-ltb, and_parts, and_from}
+use Rattle.std.proofs.lemmas.Bool.{cases_eq, cases_order, cases_Bool, eq-eqb, ne_eqb, lt-ltb, le-ltb, and_parts, and_from, or_right}
 use Rattle.cg_base.specs.declared.action_id.ActionId.{ActionId}
 use Rattle.cg_base.specs.Ids.{same_id, id_before, has_name}
 use Rattle.cg_base.specs.Cuts.{index_in, with_top, raise}
@@ -29,18 +29,14 @@ known_by h a = record h { queue = placed_red h.queue a; own = after_first h.own 
 
 -- ---- lists of names
 
-or-second : (a b : Bool) → b ≡ true → (a || b) ≡ true
-or-second true b e = refl
-or-second false b e = e
-
 -- a name that stands in the list stands there with one more among them
 names-inserted : (ids : List ActionId) (id y : ActionId) → has_name ids y ≡ true → has_name (inserted ids id) y ≡ true
 names-inserted [] id y there = absurd (let clash : false ≡ true = there in cc)
 names-inserted (x ∷ ids) id y there = elim (cases_Bool (id_before id x)) [
-  | inl before ↦ rw before (or-second (same_id y id) (has_name (x ∷ ids) y) there)
+  | inl before ↦ rw before (or_right (same_id y id) (has_name (x ∷ ids) y) there)
   | inr later ↦ rw later (elim (cases_Bool (same_id y x)) [
     | inl here ↦ rw here refl
-    | inr apart ↦ or-second (same_id y x) (has_name (inserted ids id) y) (names-inserted ids id y (rw apart at there))
+    | inr apart ↦ or_right (same_id y x) (has_name (inserted ids id) y) (names-inserted ids id y (rw apart at there))
   ])
 ]
 
@@ -53,7 +49,7 @@ names-left (x ∷ ids) id y other there = elim (cases_Bool (same_id x id)) [
       rw taken (names-left ids id y other (rw (ap (λ z. same_id y z) (same_id-is x id taken) ∙ other) at there))
   | inr stays ↦ rw stays (elim (cases_Bool (same_id y x)) [
     | inl here ↦ rw here refl
-    | inr apart ↦ or-second (same_id y x) (has_name (without id ids) y) (names-left ids id y other (rw apart at there))
+    | inr apart ↦ or_right (same_id y x) (has_name (without id ids) y) (names-left ids id y other (rw apart at there))
   ])
 ]
 

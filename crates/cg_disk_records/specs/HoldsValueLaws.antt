@@ -29,6 +29,7 @@ use Rattle.cg_disk_records.specs.RunMarkLaws.{run-names}
 use Rattle.cg_members.specs.MemberLaws.{AreApart-starting}
 use Rattle.cg_disk_records.specs.HeldLaws.{are_of, names-behind, created-behind, line-below}
 use Rattle.cg_disk_records.specs.HoldsMarkLaws.{are_red, rising-red}
+use Rattle.cg_base.specs.ListLaws.{length-dropped}
 
 -- what is held with other values
 abbrev pub with_values_of : Held → List ActionId → Bool → Primary → ℕ → Option Vulnerable → List Kind → Held
@@ -140,11 +141,6 @@ holds-made h a owed mine next is =
 
 -- ---- the white count
 
-pub dropped : (n : ℕ) (xs : List Action) → n ≤ length xs → n + length (drop n xs) ≡ length xs
-dropped zero xs le = omega arith
-dropped (suc n) [] le = absurd (omega arith)
-dropped (suc n) (x ∷ xs) le = let rest = dropped n xs (omega arith) in omega arith
-
 counts-drop : (n : ℕ) (xs : List Action) (p last : ℕ) → CountsTo last (indexes_of xs p) →
     CountsTo last (indexes_of (drop n xs) p)
 counts-drop zero xs p last counts = counts
@@ -163,7 +159,7 @@ unfolding whiten
 whitened-counts h is =
     let lines : unwrap_or (white_line h.members) 0 ≤ green_count h.queue = line-green h is in
     let enough : white_at h - h.queue.white ≤ length h.queue.greens = omega arith in
-    let kept = dropped (white_at h - h.queue.white) h.queue.greens enough in
+    let kept = length-dropped (white_at h - h.queue.white) h.queue.greens enough in
     omega arith
 
 pub holds-whiten : (h : Held) → Holds h → Holds (whiten h)
@@ -171,7 +167,7 @@ unfolding whiten
 holds-whiten h is =
     let lines : unwrap_or (white_line h.members) 0 ≤ green_count h.queue = line-green h is in
     let enough : white_at h - h.queue.white ≤ length h.queue.greens = omega arith in
-    let kept = dropped (white_at h - h.queue.white) h.queue.greens enough in
+    let kept = length-dropped (white_at h - h.queue.white) h.queue.greens enough in
     let counted : green_count h.queue ≡ white_at h + length (drop (white_at h - h.queue.white) h.queue.greens) =
     omega arith in
     record {

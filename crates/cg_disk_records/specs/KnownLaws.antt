@@ -16,8 +16,7 @@ use Rattle.cg_base.specs.IdLaws.{same_id-self}
 use Rattle.cg_queue.specs.MarkLaws.{red-placed}
 use Rattle.cg_disk_records.specs.RunMarkLaws.{run-head, run-rest}
 use Rattle.cg_disk_records.specs.HeldLaws.{after-here}
-use Rattle.std.specs.Option.{unwrap_or}
-use Rattle.std.proofs.lemmas.Option.{none-some}
+use Rattle.std.proofs.lemmas.Option.{none-some, same_Some}
 use Rattle.cg_base.specs.declared.action_id.ActionId.{ActionId}
 use Rattle.cg_disk_records.specs.Stored.{Stored, recovery_turn}
 use Rattle.cg_disk_records.specs.HoldsMarkLaws.{known_by, holds-known}
@@ -94,9 +93,6 @@ holds-recovered s is = holds-own (begin (record { held = s; state = NonPrim fals
 
 -- ---- the name of an action that becomes green
 
-pub some-same : {A : Type 0} (x y : A) → Some x ≡ Some y → x ≡ y
-some-same x y e = ap (λ o. unwrap_or o x) e
-
 pub record Greened (s : Stored) (id : ActionId) (z : Stored) : Type 0 where
   pub action : Action
   pub found : action_of s.queue id ≡ Some action
@@ -112,7 +108,7 @@ greened-from s id z e = go (action_of s.queue id) refl e where
       action = b;
       found = found;
       next = eqb-true b.id.index (suc (index_in s.queue.green_cut b.id.creator)) next;
-      is = sym (some-same (with_green s b) z (let f : (cond true (Some (with_green s b)) None) ≡
+      is = sym (same_Some (with_green s b) z (let f : (cond true (Some (with_green s b)) None) ≡
           Some z = rw next at e in f));
     }
     | inr other ↦ absurd (none-some z (let f : (cond false (Some (with_green s b)) None) ≡ Some z = rw other at e in f))

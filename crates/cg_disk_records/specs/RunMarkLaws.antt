@@ -2,13 +2,14 @@
 use Rattle.std.proofs.Common.{◌⊎◌, ◌≡◌, ℕ, suc, ◌<◌, ◌≤◌, ◌≢◌, List, [], ◌∷◌, Bool, true, false, not, ◌&&◌, ◌||◌, max, filter, refl, sym, ap, ◌∙◌, arith, inl, inr, if◌then◌else◌, eqb-true, nat_lt, nat_le}
 use Rattle.std.specs.Prelude.{◌==◌}
 use Rattle.std.specs.List.{list_all}
-use Rattle.std.proofs.lemmas.Bool.{cases_eq, cases_order, cases_Bool, eq-eqb, ne_eqb, lt-ltb, le-ltb, lt-leb, le-leb, and_parts, and_from, cond-true, cond-false}
+use Rattle.std.proofs.lemmas.Bool.{cases_eq, cases_order, cases_Bool, eq-eqb, ne_eqb, lt-ltb, le-ltb, lt-leb, le-leb, and_parts, and_from, cond-true, cond-false, or_parts}
 use Rattle.cg_base.specs.declared.action_id.ActionId.{ActionId}
 use Rattle.cg_base.specs.Ids.{same_id, id_before, has_name}
 use Rattle.cg_base.specs.Cuts.{index_in, raise}
 use Rattle.cg_disk_records.specs.Holds.{run_on, cut_behind, ascend, Rising}
-use Rattle.cg_base.specs.IdLaws.{same_id-true, same_id-false, same_name}
+use Rattle.cg_base.specs.IdLaws.{same_id-true, same_id-false, same_name, before-index, before-creator}
 use Rattle.cg_disk_records.specs.CutRaiseLaws.{raise-commute, behind-raised, rising-raise, index-same, index-other, index-rises, behind-rises, raise-below}
+use Rattle.cg_base.specs.BoolLaws.{and_false}
 
 -- ---- one run
 
@@ -213,16 +214,6 @@ before-parts a b before = elim (cases_order a.creator b.creator) [
     clash : true ≡ false → ⊥
     clash e = cc
 
-pub before-creator : (a b : ActionId) → a.creator < b.creator → id_before a b ≡ true
-before-creator a b lt = rw (lt-ltb a.creator b.creator lt) refl
-
-pub before-index : (a b : ActionId) → a.creator ≡ b.creator → a.index < b.index → id_before a b ≡ true
-before-index a b same lt = rw (
-  le-ltb a.creator b.creator (omega arith),
-  eq-eqb a.creator b.creator same,
-  lt-ltb a.index b.index lt,
-) refl
-
 pub before-trans : (a b c : ActionId) → id_before a b ≡ true → id_before b c ≡ true → id_before a c ≡ true
 before-trans a b c f g = elim (before-parts a b f) [
   | inl lt ↦ elim (before-parts b c g) [
@@ -368,7 +359,7 @@ ascend-inserted-from : (z : ActionId) (ids : List ActionId) (id : ActionId) → 
 ascend-inserted-from z [] id first new up = and_from (id_before z id) true first refl
 ascend-inserted-from z (x ∷ ids) id first new up =
     let parts = ascend-parts z x ids up in
-    let news = or-parts (same_id id x) (has_name ids id) new in
+    let news = or_parts (same_id id x) (has_name ids id) new in
     elim (cases_Bool (id_before id x)) [
       | inl before ↦
           ap (λ zs. ascend (z ∷ zs)) (inserted-front x id ids before)
@@ -379,10 +370,6 @@ ascend-inserted-from z (x ∷ ids) id first new up =
           ∙ and_from (id_before z x) (ascend (x ∷ inserted ids id))
           parts.0 (ascend-inserted-from x ids id (before-else id x later news.0) news.1 parts.1)
     ]
-  where
-    or-parts : (a b : Bool) → (a || b) ≡ false → (a ≡ false) × (b ≡ false)
-    or-parts false b e = (refl, e)
-    or-parts true b e = absurd (let clash : true ≡ false = e in cc)
 
 pub ascend-inserted : (ids : List ActionId) (id : ActionId) → has_name ids id ≡ false → ascend ids ≡ true →
     ascend (inserted ids id) ≡ true
@@ -391,14 +378,10 @@ ascend-inserted (x ∷ ids) id new up =
     elim (cases_Bool (id_before id x)) [
       | inl before ↦ ap ascend (inserted-front x id ids before) ∙ and_from (id_before id x) (ascend (x ∷ ids)) before up
       | inr later ↦
-          let news = or-parts (same_id id x) (has_name ids id) new in
+          let news = or_parts (same_id id x) (has_name ids id) new in
           ap ascend (inserted-later x id ids later)
           ∙ ascend-inserted-from x ids id (before-else id x later news.0) news.1 up
     ]
-  where
-    or-parts : (a b : Bool) → (a || b) ≡ false → (a ≡ false) × (b ≡ false)
-    or-parts false b e = (refl, e)
-    or-parts true b e = absurd (let clash : true ≡ false = e in cc)
 
 -- the name behind a run doesn't stand in it
 pub names-new : (cut ids : List ActionId) (id : ActionId) → Rising 0 cut → run_on cut ids ≡ true →
@@ -407,8 +390,4 @@ names-new cut ids id rising run last =
     run-names cut ids id rising run
     ∙ ap (λ b. nat_lt (index_in cut id.creator) id.index
     && b) (lt-leb id.index (index_in (cut_behind cut ids) id.creator) (omega arith))
-    ∙ and-off (nat_lt (index_in cut id.creator) id.index)
-  where
-    and-off : (b : Bool) → (b && false) ≡ false
-    and-off true = refl
-    and-off false = refl
+    ∙ and_false (nat_lt (index_in cut id.creator) id.index)

@@ -1,5 +1,5 @@
 -- How a replica comes up again.
-use Rattle.std.proofs.Common.{◌≡◌, ◌≤◌, ◌+◌, Bool, true, false, Some, None, List, [], ◌++◌, nat_lt, refl, sym, ◌∙◌, ap, subst, arith}
+use Rattle.std.proofs.Common.{◌≡◌, ◌≤◌, ◌+◌, Bool, true, false, Some, List, [], ◌++◌, nat_lt, refl, sym, ◌∙◌, ap, subst, arith}
 use Rattle.std.specs.Prelude.{if◌then◌else◌}
 use Rattle.std.specs.Str.{bytes_eq}
 use Rattle.cg_action.specs.declared.action.Action.{Action}
@@ -28,6 +28,7 @@ use Rattle.cg_engine.specs.declared.answers.Recovered.{Recovered}
 use Rattle.cg_engine.specs.declared.answers.Recovered.TheVariants as recovered
 use Rattle.cg_engine.specs.declared.wreck.LastEvent.{LastEvent}
 use Rattle.cg_engine.proofs.Following.{recovered_follows}
+use Rattle.std.proofs.lemmas.Option.{none-some}
 
 -- the replica of an opened store, with the red marks of its recovery
 pub open_engine : AlwaysHolds → AlwaysCounts → AlwaysSettled → AlwaysRecorded → AlwaysAhead → {D : Type 0} (view : D → DiskView) (k new : StoreState D) (core : Held) (t : Turn) → IsOpen (view k.disk) k core → t ≡ recovery_turn core →
@@ -42,9 +43,6 @@ open_engine holds counts settled records ahead {D} view k new core t opened turn
       stands = opened.stands;
       follows = subst (λ m. Follows (disk_of m u) t.replica.held) marks (subst (λ (x : Turn). Follows (disk_of (recovery_turn u.content).known u) x.replica.held) (sym is) follows);
     })
-
-nothing_is : (s : Standing) → None ≡ Some s → ⊥
-nothing_is s e = cc
 
 -- ---- a disk that was opened
 
@@ -92,7 +90,7 @@ module _ {D : Type 0} (view : D → DiskView) (w : Fallen D) (last : LastEvent) 
   refused : IsOpeningRefused w.id (view w.disk) (view k.disk)
   refused = record {
     stood = stood_as;
-    stood_for_none = λ none. absurd (nothing_is is_open.standing (sym none ∙ is_open.stands));
+    stood_for_none = λ none. absurd (none-some is_open.standing (sym none ∙ is_open.stands));
     calls = omega (arith, is_open.reached.time, calls_within is_open.standing.format);
     unstruck = is_open.reached.unstruck;
     moments = is_open.moments;

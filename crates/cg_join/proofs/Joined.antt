@@ -1,7 +1,6 @@
 -- What a joiner holds agrees where what its representative held did.
-use Rattle.std.proofs.Common.{◌≡◌, ℕ, ◌-◌, max, true, List, [], ◌∷◌, refl, arith}
-use Rattle.std.specs.Prelude.{Bool, nat_eq}
-use Rattle.std.specs.List.{list_all}
+use Rattle.std.proofs.Common.{◌≡◌, ℕ, ◌-◌, max, true, [], refl, arith}
+use Rattle.std.specs.Prelude.{nat_eq}
 use Rattle.std.specs.Cmp.Lexicographic.{pointwise}
 use Rattle.std.proofs.lemmas.Bool.{and_parts, and_from}
 use Rattle.cg_base.specs.Cuts.{index_in}
@@ -12,14 +11,11 @@ use Rattle.cg_client.specs.Replica.{Held}
 use Rattle.cg_disk_records.specs.Stored.{stored_of}
 use Rattle.cg_disk_records.specs.Agreeing.{Agrees, counts_up, count_to, indexes_of}
 use Rattle.cg_client.specs.Joined.{joiner_content, joined_queue}
+use Rattle.cg_base.specs.EachLaws.{list_all_kept_by}
 
 -- nothing stands behind a number and up to it
 none-above : (n : ℕ) → pointwise nat_eq [] (above_up_to n n) ≡ true
 none-above n = let none : n - n ≡ 0 = omega arith in rw none refl
-
-list_all-more : {X : Type 0} (f g : X → Bool) → ((x : X) → f x ≡ true → g x ≡ true) → (xs : List X) → list_all f xs ≡ true → list_all g xs ≡ true
-list_all-more f g more [] all = refl
-list_all-more f g more (x ∷ xs) all = let both = and_parts (f x) (list_all f xs) all in and_from (g x) (list_all g xs) (more x both.0) (list_all-more f g more xs both.1)
 
 counts-joined : (q : QueueView) (p : ℕ) → counts_up q p ≡ true → counts_up (joined_queue q) p ≡ true
 counts-joined q p up =
@@ -34,7 +30,7 @@ pub joined-agrees : (id : ℕ) (h : Held) → Agrees (stored_of h) → Agrees (j
 joined-agrees id h agrees = record {
   members = agrees.members;
   count = agrees.count;
-  each = list_all-more (counts_up h.queue) (counts_up (joined_queue h.queue)) (counts-joined h.queue) every_replica agrees.each;
+  each = list_all_kept_by (counts_up h.queue) (counts_up (joined_queue h.queue)) (counts-joined h.queue) every_replica agrees.each;
   red_cut = refl;
   by_name = refl;
   yellow = refl;

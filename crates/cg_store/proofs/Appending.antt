@@ -22,11 +22,11 @@ use Rattle.cg_store.specs.StoreState.{StoreState, IsStore}
 use Rattle.cg_store.specs.Answers.{IsReached, IsRefused, IsLost, EachMoment}
 use Rattle.cg_store.specs.Due.{IsLed, IsBehind}
 use Rattle.cg_store.specs.Calls.{IsEither, IsSaved, IsFirst, Writes, Moves, commit_fault}
-use Rattle.cg_store.specs.MomentLaws.{one_standing}
 use Rattle.cg_store.specs.declared.pending_record.PendingRecord.{PendingRecord}
 use Rattle.cg_store.proofs.Standing.{stands_added, stands_emptied, stands_moved, stands_begun}
 use Rattle.cg_store.proofs.Writing.{either_of, reached, lost, lost_closing}
 use Rattle.cg_journal.specs.ViewLaws.{weakened}
+use Rattle.cg_base.specs.OptionLaws.{one_value}
 
 -- a store's own record of what its disk stands for
 abbrev pub standing_at : (side : Side) (generation size : ℕ) (content : Stored) → OnDisk
@@ -34,10 +34,10 @@ standing_at side generation size content = record { side = side; generation = ge
 
 module _ (old : DiskView) (id : ℕ) (side : Side) (generation : ℕ) (values : Stable) (held : IsStore old id side generation values) where
   pub its_side : (u : OnDisk) → Stands id old.reads u → u.side ≡ side
-  its_side u stands = ap (λ (x : OnDisk). x.side) (one_standing (stands_for id (records old.reads)) u (standing_at side generation held.size held.content) stands held.stands)
+  its_side u stands = ap (λ (x : OnDisk). x.side) (one_value (stands_for id (records old.reads)) u (standing_at side generation held.size held.content) stands held.stands)
 
   pub its_content : (u : OnDisk) → Stands id old.reads u → u.content ≡ held.content
-  its_content u stands = ap (λ (x : OnDisk). x.content) (one_standing (stands_for id (records old.reads)) u (standing_at side generation held.size held.content) stands held.stands)
+  its_content u stands = ap (λ (x : OnDisk). x.content) (one_value (stands_for id (records old.reads)) u (standing_at side generation held.size held.content) stands held.stands)
 
   -- ---- a change behind the others
 

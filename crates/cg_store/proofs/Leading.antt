@@ -11,7 +11,7 @@ use Rattle.cg_base.specs.Lists.{count_up, above_up_to, Each}
 use Rattle.cg_base.specs.ListLaws.{length-count_up}
 use Rattle.cg_base.specs.Cuts.{index_in, with_top, raise, creators_in}
 use Rattle.cg_base.specs.CutLimits.{IsCut, NameActions}
-use Rattle.cg_base.specs.CutLaws.{AreNames, index_in-before, index_in-raise, IsCut-raise, IsCut-raised}
+use Rattle.cg_base.specs.CutLaws.{AreNames, index_in-before, index_in-raise, IsCut-raise, IsCut-raised, index_in-first}
 use Rattle.cg_base.specs.IdLaws.{same_name}
 use Rattle.cg_base.specs.SetLaws.{each-replica}
 use Rattle.cg_action.specs.declared.action.Action.{Action}
@@ -83,9 +83,6 @@ index_in-led cut (id ∷ ids) p is_cut are next =
 
 abbrev SameIndexes : ℕ → List ActionId → List ActionId → Type 0
 SameIndexes low a b = (p : ℕ) → low ≤ p → index_in a p ≡ index_in b p
-
-index_in-first : (x : ActionId) (cut : List ActionId) → index_in (x ∷ cut) x.creator ≡ x.index
-index_in-first x cut = rw (eq-eqb x.creator x.creator refl)
 
 index_in-rest : (x : ActionId) (cut : List ActionId) (p : ℕ) → x.creator ≢ p → index_in (x ∷ cut) p ≡ index_in cut p
 index_in-rest x cut p apart = rw (ne_eqb x.creator p apart)

@@ -36,17 +36,12 @@ use Rattle.cg_store.specs.declared.errors.OpenErr.{OpenErr}
 use Rattle.cg_store.specs.declared.errors.OpenErr.TheVariants.{Lost, NotAStore, NoMemory}
 use Rattle.cg_store.specs.declared.finding.OpenedSide.{OpenedSide}
 use Rattle.cg_store.specs.declared.settling.Settled.{Settled}
+use Rattle.std.proofs.lemmas.Option.{none-some, same_Some}
 
 -- ---- what a disk stands for
 
-one_standing : (a b : Standing) → Some a ≡ Some b → a ≡ b
-one_standing a b e = cc
-
 pub same_standing : (id : ℕ) (c : Image) (s t : Standing) → StandsFor id c s → StandsFor id c t → s ≡ t
-same_standing id c s t is that = one_standing s t (sym is ∙ that)
-
-stands_or_none : (s : Standing) → None ≡ Some s → ⊥
-stands_or_none s e = cc
+same_standing id c s t is that = same_Some s t (sym is ∙ that)
 
 pub for_none : (id : ℕ) (c : Image) (s : Sides) → sides c ≡ Some s → chosen_in id s ≡ None → standing_on_disk id c ≡ None
 unfolding standing_on_disk
@@ -211,14 +206,14 @@ module _ (id : ℕ) (old mid new : DiskView) (read : IsRead 5 old mid) (s : Stan
           let cut : IsCutOpening id s is.call next.0 e = is.told next.0 e next.1 after in
           record { strike = cut.strike; armed = sym next.2 ∙ cut.armed; fills = cut.fills };
     });
-    stood_for_none = λ none. absurd (stands_or_none s (sym none ∙ stood_before));
+    stood_for_none = λ none. absurd (none-some s (sym none ∙ stood_before));
     moments = opening_moments is.moments;
   }
 
   pub opening_refused : IsUnsettled id 11 s mid new → IsOpeningRefused id old new
   opening_refused is = record {
     stood = λ t that. record { standing = is.stands.standing; stands = is.stands.stands; content_is = is.stands.content_is ∙ content_same t that };
-    stood_for_none = λ none. absurd (stands_or_none s (sym none ∙ stood_before));
+    stood_for_none = λ none. absurd (none-some s (sym none ∙ stood_before));
     calls = omega (arith, is.time, read.time);
     unstruck = unstruck_more old mid new read.unstruck is.unstruck;
     moments = opening_moments is.moments;

@@ -1,5 +1,5 @@
 -- Changes put in one after another, where each of them fits.
-use Rattle.std.proofs.Common.{◌≡◌, ℕ, zero, suc, drop, List, [], ◌∷◌, Bool, true, false, Option, Some, None, Result, Ok, Err, IfOk, refl, sym, ap, ◌∙◌}
+use Rattle.std.proofs.Common.{◌≡◌, zero, suc, List, [], ◌∷◌, Bool, true, false, Option, Some, None, Result, Ok, Err, IfOk, refl, sym, ap, ◌∙◌}
 use Rattle.std.specs.Prelude.{option_and_then, slice_get}
 use Rattle.std.specs.List.{list_all}
 use Rattle.std.proofs.lemmas.Bool.{and_parts}
@@ -75,9 +75,3 @@ pub if_ok_follows : (o p : Option Stored) (h : Stored) (E : Type 0) (r : Result 
 if_ok_follows o p h E (Ok true) same is = same ∙ is
 if_ok_follows o p h E (Ok false) same is = same ∙ is
 if_ok_follows o p h E (Err e) same is = tt
-
--- the item at an index, and those behind it
-pub drop-at : {A : Type 0} (items : List A) (i : ℕ) (a : A) → slice_get items i ≡ Some a → drop i items ≡ a ∷ drop (suc i) items
-drop-at [] i a is = absurd cc
-drop-at (x ∷ items) zero a is = let same : x ≡ a = cc in ap (λ y. y ∷ items) same
-drop-at (x ∷ items) (suc i) a is = drop-at items i a is

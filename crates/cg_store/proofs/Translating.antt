@@ -22,6 +22,7 @@ use Rattle.cg_store.specs.Opening.{Finds}
 use Rattle.cg_store.specs.Translated.{IsSameChange, IsSameCheckpoint, AreSameChanges, AreSame, IsInNewer, IsFoundOn, FindsOn}
 use Rattle.cg_store.specs.declared.finding.OpenedSide.{OpenedSide}
 use Rattle.cg_store.proofs.Owner.{standing-id}
+use Rattle.std.proofs.lemmas.Option.{same_Some}
 
 -- ---- no bytes are no record
 
@@ -35,12 +36,9 @@ none_checkpoint id = refl
 
 -- ---- one record more
 
-same_some : {X : Type 0} (a b : X) → Some a ≡ Some b → a ≡ b
-same_some a b e = cc
-
 change_at : (olds news : List (List ℕ)) (i : ℕ) (old new : List ℕ) → AreSameChanges (take i olds) news → slice_get olds i ≡ Some old → IsSameChange old new → AreSameChanges (take (suc i) olds) (news ++ new ∷ [])
 change_at [] news i old new are at is = absurd (let clash : None ≡ Some old = at in cc)
-change_at (first ∷ olds) [] zero old new are at is = (subst (λ x. IsSameChange x new) (sym (same_some first old at)) is, tt)
+change_at (first ∷ olds) [] zero old new are at is = (subst (λ x. IsSameChange x new) (sym (same_Some first old at)) is, tt)
 change_at (first ∷ olds) (other ∷ news) zero old new are at is = absurd are
 change_at (first ∷ olds) [] (suc i) old new are at is = absurd are
 change_at (first ∷ olds) (other ∷ news) (suc i) old new are at is = (are.0, change_at olds news i old new are.1 at is)
@@ -53,7 +51,7 @@ same_at (first ∷ olds) (other ∷ news) (suc i) old new are at some is = (are.
 
 pub same_first : (olds : List (List ℕ)) (old new : List ℕ) → slice_get olds 0 ≡ Some old → IsSameCheckpoint old new → AreSame (take 1 olds) (new ∷ [])
 same_first [] old new at is = absurd (let clash : None ≡ Some old = at in cc)
-same_first (first ∷ olds) old new at is = (subst (λ x. IsSameCheckpoint x new) (sym (same_some first old at)) is, tt)
+same_first (first ∷ olds) old new at is = (subst (λ x. IsSameCheckpoint x new) (sym (same_Some first old at)) is, tt)
 
 -- ---- what they stand for, but for the length of the side
 
@@ -154,7 +152,7 @@ finds_on id s a b is_a is_b (Some f) is = at (chosen_in id s) refl (chosen_alike
     at : (x : Option OnDisk) → chosen_in id s ≡ x → option_map unmeasured x ≡ Some (unmeasured there) → IsFoundOn id s f
     at None e same = absurd (let clash : None ≡ Some (unmeasured there) = same in cc)
     at (Some u) e same =
-        let like = same_some (unmeasured u) (unmeasured there) same in
+        let like = same_Some (unmeasured u) (unmeasured there) same in
         record {
           size = u.size;
           stands = e ∙ (λ i. Some (record { side = (like i).side; generation = (like i).generation; size = u.size; content = (like i).content }));

@@ -15,6 +15,7 @@ use Rattle.cg_store.specs.Stands.{Live, OnDisk, Stands, live_on, stands_for, cho
 use Rattle.cg_store.specs.Formats.{live_with, live_as, chosen_in}
 use Rattle.cg_store.specs.FormatLaws.{on_side}
 use Rattle.cg_store.specs.NewerLaws.{same_live}
+use Rattle.std.proofs.lemmas.Option.{same_Some}
 
 -- ---- the front of a side
 
@@ -57,19 +58,16 @@ else_two front not_one not_none = at (bytes_eq front header) (bytes_eq front old
 none_found : (r : SideRecords) → None ≡ Some r → ⊥
 none_found r e = cc
 
-same_found : (r q : SideRecords) → Some r ≡ Some q → r ≡ q
-same_found r q e = cc
-
 abbrev as_version : ℕ → List (List ℕ) → SideRecords
 as_version v bodies = record { version = v; bodies = bodies }
 
 as_found : (v : ℕ) (bytes : List ℕ) (r : SideRecords) → found_as v bytes ≡ Some r → r.version ≡ v
-as_found zero bytes r is = sym (ap (λ (x : SideRecords). x.version) (same_found (blank 0) r is))
+as_found zero bytes r is = sym (ap (λ (x : SideRecords). x.version) (same_Some (blank 0) r is))
 as_found (suc v) bytes r is = at (bodies_from (length bytes) (drop 8 bytes)) is
   where
     at : (found : Option (List (List ℕ))) → option_map (as_version (suc v)) found ≡ Some r → r.version ≡ suc v
     at None e = absurd (none_found r e)
-    at (Some bodies) e = sym (ap (λ (x : SideRecords). x.version) (same_found (as_version (suc v) bodies) r e))
+    at (Some bodies) e = sym (ap (λ (x : SideRecords). x.version) (same_Some (as_version (suc v) bodies) r e))
 
 found_long : (bytes : List ℕ) (r : SideRecords) → found_on bytes ≡ Some r → found_as (version_of (take 8 bytes)) bytes ≡ Some r
 unfolding found_on
@@ -87,7 +85,7 @@ pub found_none : (bytes : List ℕ) (r : SideRecords) → found_on bytes ≡ Som
 found_none bytes r is zeroth =
     let none : version_of (take 8 bytes) ≡ 0 = sym (found_version bytes r is) ∙ zeroth in
     let blank_is : Some (blank 0) ≡ Some r = sym (ap (λ v. found_as v bytes) none) ∙ found_long bytes r is in
-    sym (ap (λ (x : SideRecords). x.bodies) (same_found (blank 0) r blank_is))
+    sym (ap (λ (x : SideRecords). x.bodies) (same_Some (blank 0) r blank_is))
 
 -- a side of the newer format is read as one
 pub found_two : (bytes : List ℕ) (r : SideRecords) → found_on bytes ≡ Some r → r.version ≡ 2 → bodies_of bytes ≡ Some r.bodies
@@ -102,7 +100,7 @@ found_two bytes r is second = (λ i. if two_is (take 8 bytes) two i then bodies_
 
     at : (found : Option (List (List ℕ))) → option_map (as_version 2) found ≡ Some r → found ≡ Some r.bodies
     at None e = absurd (none_found r e)
-    at (Some bodies) e = ap (λ (x : SideRecords). Some x.bodies) (same_found (as_version 2 bodies) r e)
+    at (Some bodies) e = ap (λ (x : SideRecords). Some x.bodies) (same_Some (as_version 2 bodies) r e)
 
 -- ---- both sides
 

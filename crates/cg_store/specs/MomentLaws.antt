@@ -1,5 +1,5 @@
 -- An image stands for one state; what holds at each moment of a call, and of two calls one behind the other.
-use Rattle.std.proofs.Common.{◌≡◌, inl, inr, ⊎_elim, ℕ, Option, Some, None, Result, Ok, Err, arith}
+use Rattle.std.proofs.Common.{◌≡◌, inl, inr, ⊎_elim, ℕ, Result, Ok, Err, arith}
 use Rattle.cg_disk.specs.Sides.{Image}
 use Rattle.cg_disk.specs.View.{DiskView, LeavesOnly}
 use Rattle.cg_journal.specs.Records.{records}
@@ -9,13 +9,10 @@ use Rattle.cg_store.specs.Calls.{IsEither, IsOneOfThree}
 use Rattle.cg_store.specs.declared.errors.CommitErr.{CommitErr}
 use Rattle.cg_store.specs.declared.errors.CommitErr.TheVariants.{Lost, NoMemory}
 use Rattle.cg_journal.specs.ViewLaws.{weakened}
-
-pub one_standing : (found : Option OnDisk) (u v : OnDisk) → found ≡ Some u → found ≡ Some v → u ≡ v
-one_standing None u v a b = cc
-one_standing (Some w) u v a b = cc
+use Rattle.cg_base.specs.OptionLaws.{one_value}
 
 pub stands_once : (id : ℕ) (c : Image) (u v : OnDisk) → Stands id c u → Stands id c v → u ≡ v
-stands_once id c u v a b = one_standing (stands_for id (records c)) u v a b
+stands_once id c u v a b = one_value (stands_for id (records c)) u v a b
 
 -- ---- what holds at each moment of a run
 

@@ -2,10 +2,10 @@ use Rattle.std.proofs.Common.{◌+◌, ◌++◌, length, flat_map}
 use Rattle.cg_codec.specs.Fields.{number32}
 use Rattle.cg_action.specs.ActionLimits.{IsAction}
 use Rattle.cg_action.specs.Bytes.{spelled_action}
-use Rattle.cg_disk_records.proofs.ListFields.{Each-front, Each-rest}
 use Rattle.cg_base.specs.TextLaws.{grown_twice}
 use Rattle.cg_disk_records.proofs.Steps.{front_after}
 use Rattle.cg_disk_records.proofs.lists.write_actions.Goals as goal
+use Rattle.cg_base.specs.EachLaws.{Each-rest, Each-front}
 
 pub write_each-requires : goal.write_each-requires
 write_each-requires c = Each-front IsAction c.args.first.now c.args.others.now c.requires.each

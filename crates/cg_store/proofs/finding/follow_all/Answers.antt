@@ -2,8 +2,9 @@ use Rattle.std.proofs.Common.{◌≡◌, ◌+◌, ◌≤◌, [], Some, suc, drop
 use Rattle.std.proofs.lemmas.List.{drop_all}
 use Rattle.cg_store.specs.Stands.{led_by, led_by_all}
 use Rattle.cg_store.specs.Opening.{Follows}
-use Rattle.cg_store.proofs.Replaying.{stops_at, drop-at}
+use Rattle.cg_store.proofs.Replaying.{stops_at}
 use Rattle.cg_store.proofs.finding.follow_all.Goals as goal
+use Rattle.cg_base.specs.ListLaws.{drop-at}
 
 pub loop-i-init : goal.loop-i-init
 loop-i-init c = (refl, c.requires, c.new-recent.ensures)
