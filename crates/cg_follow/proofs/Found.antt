@@ -1,16 +1,9 @@
 -- What is read of a side's records, one behind the other.
-use Rattle.std.proofs.Common.{◌≡◌, ℕ, zero, suc, List, [], ◌∷◌, drop, Option, Some, None, refl, sym, ap, ◌∙◌}
+use Rattle.std.proofs.Common.{◌≡◌, ℕ, zero, suc, List, [], ◌∷◌, Option, Some, None, refl, sym, ap, ◌∙◌}
 use Rattle.std.specs.Prelude.{fold, slice_get}
 use Rattle.cg_follow.specs.Followed.{Followed}
 use Rattle.cg_follow.specs.Bytes.{follower_in}
 use Rattle.cg_follow.specs.Stands.{led_by, follower_on}
-
--- the record at an index, and those behind it
-pub drop-at : {A : Type 0} (items : List A) (i : ℕ) (a : A) → slice_get items i ≡ Some a → drop i items ≡ a ∷ drop
-    (suc i) items
-drop-at [] i a is = absurd cc
-drop-at (x ∷ items) zero a is = let same : x ≡ a = cc in ap (λ y. y ∷ items) same
-drop-at (x ∷ items) (suc i) a is = drop-at items i a is
 
 -- nothing leads on from no follower
 none-led : (bodies : List (List ℕ)) → fold led_by None bodies ≡ None

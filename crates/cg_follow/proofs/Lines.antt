@@ -25,6 +25,7 @@ use Rattle.cg_follow.specs.declared.word.FollowWord.TheVariants.{Follower, Feed,
 use Rattle.cg_follow.specs.Line.{word_of, make_reading, feed_reading, stop_reading, recover_reading, weak_reading, event_reading, follow_reading}
 use Rattle.cg_follow.specs.Print.{line_of}
 use Rattle.cg_follow.specs.LineLaws.{IsFollowEvent, ReadsAs, ExactLines}
+use Rattle.cg_base.specs.ListLaws.{same_rest}
 
 -- the laws of tokens, and of the parts of a schedule's lines
 pub record Known : Type 0 where
@@ -307,9 +308,6 @@ reopened line e word ts stands is_text line_tokens reads = rw (
 
 -- ---- the whole line
 
-others : (t : List ℕ) (l m : List (List ℕ)) → t ∷ l ≡ t ∷ m → l ≡ m
-others t l m e = cc
-
 module _ (known : Known) where
   -- a word and what stands behind a blank
   worded : (text rest : List ℕ) → is_word text ≡ true → tokens (text ++ 32 ∷ rest) ≡ text ∷ tokens rest
@@ -327,7 +325,7 @@ module _ (known : Known) where
       let o = opened line e f in
       let g = found o.word o.rest e o.reads in
       let p = (known.parts (twin e) o.rest).0 g.1 in
-      let rest : o.rest ≡ tokens (behind_word e) = others (word_text (event_word (twin e))) o.rest
+      let rest : o.rest ≡ tokens (behind_word e) = same_rest (word_text (event_word (twin e))) o.rest
       (tokens (behind_word e)) (sym p.1 ∙ twin_tokens e) in
       record {
         stands = o.stands;

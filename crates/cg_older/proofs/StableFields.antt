@@ -20,7 +20,8 @@ use Rattle.cg_records.specs.RecordLaws.{number_field, set_field, maybe_vulnerabl
 use Rattle.cg_older.specs.Bytes.{spelled_old_prim, spelled_old_stable}
 use Rattle.cg_older.specs.Reading.{old_prim_reading, old_stable_reading}
 use Rattle.cg_older.specs.Weights.{is_heavy_member}
-use Rattle.cg_older.proofs.Light.{ids-once, once-within, once-light, light-once}
+use Rattle.cg_older.proofs.Light.{once-within, once-light, light-once}
+use Rattle.cg_base.specs.WeightLaws.{ids-each_once}
 
 -- ---- a primary component
 
@@ -46,7 +47,7 @@ prim_field =
     field_three prim_is (λ p. p.index) (λ p. p.conf) (λ p. ids p.set) IsNumber IsNumber IsSet number64 number64 spelled_set take_number take_number take_set IsLightPrimary spelled_old_prim
     number_field number_field set_field
     (λ p has. (has.is.index, has.is.conf, ids-within p has, prim-same p has, refl))
-    (λ index conf set i c s. (prim-within index conf set i c s, refl, refl, ids-once set))
+    (λ index conf set i c s. (prim-within index conf set i c s, refl, refl, ids-each_once set))
 
 -- ---- all of it
 

@@ -3,8 +3,9 @@ use Rattle.std.specs.Prelude.{slice_get}
 use Rattle.std.proofs.lemmas.List.{drop_all}
 use Rattle.cg_follow.specs.Stands.{led_by}
 use Rattle.cg_follow.specs.Finding.{Follows}
-use Rattle.cg_follow.proofs.Found.{drop-at, stops-at}
+use Rattle.cg_follow.proofs.Found.{stops-at}
 use Rattle.cg_follow.proofs.finding.take_feeds.Goals as goal
+use Rattle.cg_base.specs.ListLaws.{drop-at}
 
 pub returns-then-not-branch : goal.returns-then-not-branch
 returns-then-not-branch c =
