@@ -3,7 +3,7 @@
 use Rattle.std.proofs.Common.{◌≡◌, ℕ, zero, suc, ◌+◌, ◌==◌, nat_lt, List, [], ◌∷◌, ◌++◌, length, map, IfSome, if◌then◌else◌, Option, Some, None, Bool, true, false, cond, refl, sym, ap, ◌∙◌, arith, length-append, ◌-◌, subst, not, Result, Ok, Err, ◌<◌}
 use Rattle.std.specs.Option.{option_map_or}
 use mathlib.Core.List.{map-append}
-use Rattle.std.proofs.lemmas.Bool.{and_parts, ltb-true}
+use Rattle.std.proofs.lemmas.Bool.{and_parts, ltb-true, not-true}
 use Rattle.cg_base.specs.Lists.{present}
 use Rattle.cg_base.specs.Text.{pieces_of}
 use Rattle.cg_group.specs.declared.reason.Reason.{Reason}
@@ -332,10 +332,6 @@ moved event s = record s { reader = state_after s.reader event }
 Holds-moved : (s : Progress) (e : Event) (p : Produced) → Holds (moved e s) p → Holds s p
 Holds-moved s e p h = record { is_run = h.is_run; noted = h.noted; world = h.world; kept = h.kept; count = h.count; refused = h.refused; told = h.told; under_way = h.under_way }
 
-not_true : (b : Bool) → not b ≡ true → b ≡ false
-not_true true h = absurd cc
-not_true false h = refl
-
 -- an event that is a step behind a start
 abbrev IsOther : Event → Type 0
 IsOther (Start set) = ⊥
@@ -354,7 +350,7 @@ other_stands w other o some within = (some, may_ask other within)
 Holds-read : (n : ℕ) (e : Event) (s : Progress) → IsUnderWay s → fits s.reader (event_word e) ≡ true → IsEvent e → Holds s (happened n e (moved e s))
 unfolding happened
 Holds-read n (Start set) s under fit within =
-    let fresh = not_true s.reader.started (and_parts (not s.reader.ended) (not s.reader.started) fit).1 in
+    let fresh = not-true s.reader.started (and_parts (not s.reader.ended) (not s.reader.started) fit).1 in
     Holds-moved s (Start set) (one_step n None (Start set) (moved (Start set) s)) (Holds-one_step n None (Start set) (moved (Start set) s) tt (under.before fresh, within) refl)
 Holds-read n End s under fit within = by_refusal (end_refusal s.companion s.world) where
   by_refusal : (o : Option Reason) → Holds s (ended_unless o n (moved End s))

@@ -11,7 +11,6 @@ use Rattle.std.proofs.lemmas.Bool.{cases_Bool, cases_lt, cond-true, cond-false, 
 use Rattle.cg_base.specs.SetLaws.{filter-keeps, filter-drops}
 use Rattle.cg_group.specs.declared.reason.Reason.{Reason}
 use Rattle.cg_group.specs.declared.reason.Reason.TheVariants.{AlreadyUp}
-use Rattle.cg_group.specs.Refusals.{refuse}
 use Rattle.cg_group.specs.Events.{go_down}
 use Rattle.cg_group.specs.State.{GroupState, is_up}
 use Rattle.cg_wire.specs.declared.message.Msg.{Msg}
@@ -24,6 +23,7 @@ use Rattle.cg_model.specs.Step.{quietly, snapshot_for, without_snapshot, transfe
 use Rattle.cg_world_events.specs.StepInProgress.{hosted, fallen}
 use Rattle.cg_world_events.specs.Grounds.{IsHosted}
 use Rattle.cg_world_events.specs.Handing.{Chooses, takes}
+use Rattle.cg_group.specs.RefusalLaws.{refuse_none}
 
 -- ---- one is taken out
 
@@ -111,15 +111,11 @@ third-none None (Some x) c d e is = absurd (let clash : Some x ≡ None = is in 
 third-none None None (Some x) d e is = absurd (let clash : Some x ≡ None = is in cc)
 third-none None None None d e is = refl
 
-not-refused : (b : Bool) (reason : Reason) → refuse b reason ≡ None → b ≡ false
-not-refused true reason is = absurd (let clash : Some reason ≡ None = is in cc)
-not-refused false reason is = refl
-
 pub joiner-down : (w : World) (p joiner : ℕ) → IsHosted w → first_some (takes_part w p ∷ never_named w joiner ∷ begun_already w joiner ∷ joiner_left w p joiner ∷ not_green w p joiner ∷ []) ≡ None → is_up w.group joiner ≡ false
 joiner-down w p joiner is admitted =
     let third : begun_already w joiner ≡ None =
     third-none (takes_part w p) (never_named w joiner) (begun_already w joiner) (joiner_left w p joiner) (not_green w p joiner) admitted in
-    let fresh : has_begun w joiner ≡ false = not-refused (has_begun w joiner) (AlreadyUp joiner) third in
+    let fresh : has_begun w joiner ≡ false = refuse_none (has_begun w joiner) (AlreadyUp joiner) third in
     sym (is.up joiner) ∙ none-runs (node_of w joiner) fresh
   where
     none-runs : (o : Option Node) → is_some o ≡ false → is_some (option_and_then (λ (s : Node). running s.life) o) ≡ false
