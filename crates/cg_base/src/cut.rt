@@ -63,16 +63,14 @@ impl Cut {
         Cut { indexes: [0; 32] }
     }
 
-    /// The index of the creator's last action, 0 where it has none. It also says what every cut is: a list of names of
-    /// actions, ascending by creator.
+    /// The index of the creator's last action, 0 where it has none.
     pub fn get(&self, id: ReplicaId) -> u64
-        ensures value { result ≡ index_in self.now id }
-        ensures cut { IsCut self.now }
+        ensures { result ≡ index_in self.now id }
     {
         self.indexes[usize::from(id.get() - 1)]
     }
 
-    /// What always holds of a cut.
+    /// What always holds of a cut: it is a list of names of actions, ascending by creator.
     pub fn holds(&self)
         ensures { IsCut self.now }
     {
@@ -140,12 +138,10 @@ pub struct Tops {
 
 impl Cut {
     ghost use Rattle.cg_base.specs.Iterators.{tops_left};
-    ghost use Rattle.cg_base.specs.CutLimits.{IsCut};
 
     /// The name of each creator's last action, ascending.
     pub fn iter(&self) -> Tops
-        ensures items { tops_left result ≡ self.now }
-        ensures cut { IsCut self.now }
+        ensures { tops_left result ≡ self.now }
     {
         Tops {
             indexes: self.indexes,

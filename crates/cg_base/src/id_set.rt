@@ -82,16 +82,14 @@ impl IdSet {
         self.word &= !(1 << slot);
     }
 
-    /// It also says what every set is: an ascending list of identifiers.
     pub fn contains(&self, id: ReplicaId) -> bool
-        ensures value { result ≡ has self.now id }
-        ensures set { IsSet self.now }
+        ensures { result ≡ has self.now id }
     {
         let slot = u32::from(id.get() - 1);
         (self.word >> slot) & 1 == 1
     }
 
-    /// What always holds of a set.
+    /// What always holds of a set: it is an ascending list of identifiers.
     pub fn holds(&self)
         ensures { IsSet self.now }
     {
@@ -130,11 +128,11 @@ impl IdSet {
         self.word & !o.word == 0
     }
 
-    /// At most 32. It also says what every set is: an ascending list of identifiers.
+    /// At most 32.
     pub fn count(&self) -> u8
-        ensures value { result ≡ length self.now }
-        ensures set { IsSet self.now }
+        ensures { result ≡ length self.now }
     {
+        self.holds();
         self.iter().count() as u8
     }
 
@@ -181,12 +179,10 @@ pub struct SetIter {
 
 impl IdSet {
     ghost use Rattle.cg_base.specs.Iterators.{members_left};
-    ghost use Rattle.cg_base.specs.Sets.{IsSet};
 
     /// The members, ascending.
     pub fn iter(&self) -> SetIter
-        ensures items { members_left result ≡ self.now }
-        ensures set { IsSet self.now }
+        ensures { members_left result ≡ self.now }
     {
         SetIter {
             left: IdSet { word: self.word },

@@ -66,6 +66,7 @@ impl WeightSet {
     pub fn of(set: &IdSet) -> WeightSet
         ensures { result ≡ each_once set.now }
     {
+        set.holds();
         let mut weighted = WeightSet::empty();
         for id in set.iter() {
             weighted.put(id, 1);
@@ -82,16 +83,14 @@ impl WeightSet {
         self.weights[slot] = weight;
     }
 
-    /// 0 where the replica is no member. It also says what every set with weights is: a list of members, ascending, with
-    /// weights from 1 to 255.
+    /// 0 where the replica is no member.
     pub fn weight(&self, id: ReplicaId) -> u8
-        ensures value { result ≡ weight_in self.now id }
-        ensures set { IsWeightSet self.now }
+        ensures { result ≡ weight_in self.now id }
     {
         self.weights[usize::from(id.get() - 1)]
     }
 
-    /// What always holds of a set with weights.
+    /// What always holds of a set with weights: it is a list of members, ascending, with weights from 1 to 255.
     pub fn holds(&self)
         ensures { IsWeightSet self.now }
     {
@@ -101,6 +100,7 @@ impl WeightSet {
     pub fn contains(&self, id: ReplicaId) -> bool
         ensures { result ≡ has (ids self.now) id }
     {
+        self.holds();
         self.weight(id) != 0
     }
 
@@ -163,12 +163,10 @@ pub struct WeightIter {
 
 impl WeightSet {
     ghost use Rattle.cg_base.specs.Iterators.{weights_left};
-    ghost use Rattle.cg_base.specs.Weights.{IsWeightSet};
 
     /// The members with their weights, ascending.
     pub fn iter(&self) -> WeightIter
-        ensures items { weights_left result ≡ self.now }
-        ensures set { IsWeightSet self.now }
+        ensures { weights_left result ≡ self.now }
     {
         WeightIter {
             weights: self.weights,

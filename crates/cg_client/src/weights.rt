@@ -8,6 +8,7 @@ use cg_base::{IdSet, WeightSet};
 pub fn weigh(members: &CheckedServers, set: &IdSet) -> WeightSet
     ensures { result ≡ weighted members.now set.now }
 {
+    set.holds();
     let mut weighted = WeightSet::empty();
     for id in set.iter() {
         weighted.put(id, members.weight(id).max(1));

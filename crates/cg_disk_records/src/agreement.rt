@@ -93,6 +93,7 @@ fn reds_count(reds: &[Action], from: Cut, to: &Cut) -> bool
     for a in reds {
         let ActionId { creator, index } = a.id;
         creator.holds();
+        at.holds();
         let last = at.get(creator);
         if last >= to.get(creator) || index != last + 1 {
             return false;

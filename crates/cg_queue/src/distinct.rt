@@ -12,6 +12,7 @@ pub fn is_distinct(ids: &[ActionId]) -> bool
     // a name behind all of its creator before it is new: only another is looked for
     let mut last = Cut::zero();
     for (i, id) in ids.iter().enumerate() {
+        last.holds();
         if id.index <= last.get(id.creator) && has_name(&ids[..i], id) {
             return false;
         }

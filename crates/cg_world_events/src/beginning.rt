@@ -34,6 +34,7 @@ fn begin_all(alloc: Global, state: &mut WorldState, set: &WeightSet) -> Result<(
     requires { state.old ≡ no_world }
     ensures { OnOk result (state.new ≡ fold (begin_replica set.now) state.old (ids set.now)) }
 {
+    set.holds();
     for p in set.ids().iter() {
         begin_replica(alloc, state, set, p)?;
     }

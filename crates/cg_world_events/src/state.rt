@@ -218,8 +218,10 @@ impl WorldState {
     pub(crate) fn left_replicas(&self) -> IdSet
         ensures { result ≡ left_replicas self.now }
     {
+        let up = self.up_replicas();
+        up.holds();
         let mut left = IdSet::empty();
-        for p in self.up_replicas().iter() {
+        for p in up.iter() {
             left = self.with_left(left, p);
         }
         left

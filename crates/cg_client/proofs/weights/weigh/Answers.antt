@@ -8,4 +8,4 @@ pub returns : goal.returns
 returns c =
     let none : members_left c.loop-id.id-iterator ≡ [] = search rules in
     let all : c.loop-id.weighted ≡ fold (put_weighing (λ p. max 1 (weight_of c.args.members.now.servers p))) [] c.args.set.now = rw none at c.loop-id.invariant in
-    all ∙ weighing-is (λ p. max 1 (weight_of c.args.members.now.servers p)) c.args.set.now c.iter-id-items.ensures.set
+    all ∙ weighing-is (λ p. max 1 (weight_of c.args.members.now.servers p)) c.args.set.now c.holds.ensures

@@ -8,7 +8,7 @@ returns c =
     let a = c.in-Some.action.now in
     let v = c.args.value.now in
     let at : c.get.result ≡ index_in v.known c.args.p =
-    c.get.ensures.value ∙ ap (λ cut. index_in cut c.args.p) c.known-known.ensures in
+    c.get.ensures ∙ ap (λ cut. index_in cut c.args.p) c.known-known.ensures in
     let found = c.in-Some.ensures.lookup in
     from-next c.relaxed_values_agree.ensures.one_map c.args.rows.now v c.add.new.self c.args.p c.get.result a
     c.row_of.result.now

@@ -11,7 +11,7 @@ returns-then-green-id c =
     let id = c.args.id.now in
     let cut = c.args.cut.now in
     let flag = c.args.is_yellow in
-    let green : c.get-green.result ≡ index_in cut id.creator = c.get-green.ensures.value in
+    let green : c.get-green.result ≡ index_in cut id.creator = c.get-green.ensures in
     let slot : c.lane_of-slot.result ≡ lane_of id = c.lane_of-slot.ensures.value in
     let i : id.index - c.get-green.result - 1 ≡ id.index - suc (index_in cut id.creator) = omega arith in
     rw (is_above-true cut id (omega arith))

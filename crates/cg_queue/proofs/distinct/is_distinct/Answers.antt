@@ -30,14 +30,14 @@ loop-i-preserved c =
     let new : has_name (take i ids) id ≡ false = elim c.else-id-get.branch [
       | else-id-get-via-then-id-get+else-has_name w ↦ sym w.has_name.ensures ∙ w.if-has_name.false
       | else-id-get-via-else-id-get w ↦
-          let top : c.get.result ≡ index_in cut id.creator = c.get.ensures.value in
+          let top : c.get.result ≡ index_in cut id.creator = c.get.ensures in
           let over : c.get.result < id.index = w.if-id-get.false in
           new-beyond cut (take i ids) id c.loop-i.invariant.behind (omega arith)
     ] in
     record {
       behind = subst (λ l. AreBehind c.raise.new.self l) next
           (subst (λ l. AreBehind l (take i ids ++ id ∷ [])) (sym c.raise.ensures)
-          (behind-next cut (take i ids) id c.get.ensures.cut c.loop-i.invariant.behind));
+          (behind-next cut (take i ids) id c.holds.ensures c.loop-i.invariant.behind));
       distinct = ap is_distinct (sym next) ∙ distinct-behind (take i ids) id c.loop-i.invariant.distinct new;
     }
 

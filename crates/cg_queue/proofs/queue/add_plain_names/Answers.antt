@@ -16,8 +16,8 @@ returns-then-is_empty c =
     let slot = c.args.slot in
     let creator : c.known-creator.result ≡ suc slot = omega arith in
     let none : length b.yellow ≡ 0 = sym c.args.body.now.yellow.ok.0 ∙ eqb-true _ 0 (sym c.is_empty.ensures ∙ c.if-is_empty.true) in
-    let is_low = c.get-low.ensures.value ∙ ap (index_in b.green_cut) creator in
-    let is_high = c.get-high.ensures.value ∙ ap (index_in b.red_cut) creator in
+    let is_low = c.get-low.ensures ∙ ap (index_in b.green_cut) creator in
+    let is_high = c.get-high.ensures ∙ ap (index_in b.red_cut) creator in
     OnOk_with c.push_run.result c.push_run.ensures.ok (λ put.
     put ∙ ap (λ ids. c.args.ids.now ++ ids)
     (ap (names_above c.get-low.result c.get-high.result) creator ∙ lane-names b slot c.get-low.result c.get-high.result c.requires.lane is_low is_high (nil_from_length b.yellow none)))
@@ -27,7 +27,7 @@ loop-index-init c =
     let b = parts_of c.args.body.now in
     let creator : c.known-creator.result ≡ suc c.args.slot = omega arith in
     ap (λ ids. c.args.ids.now ++ ids) (plain-begins b c.args.slot c.get-low.result c.get-high.result c.requires.lane
-    (c.get-low.ensures.value ∙ ap (index_in b.green_cut) creator) (c.get-high.ensures.value ∙ ap (index_in b.red_cut) creator))
+    (c.get-low.ensures ∙ ap (index_in b.green_cut) creator) (c.get-high.ensures ∙ ap (index_in b.red_cut) creator))
 
 pub loop-index-preserved : goal.loop-index-preserved
 loop-index-preserved c =
@@ -36,7 +36,7 @@ loop-index-preserved c =
     let creator : c.known-creator.result ≡ suc c.args.slot = omega arith in
     let id : ActionId = record { creator = c.known-creator.result; index = index + 1 } in
     plain-listed b c.args.slot c.get-low.result c.get-high.result c.requires.lane
-    (c.get-low.ensures.value ∙ ap (index_in b.green_cut) creator) (c.get-high.ensures.value ∙ ap (index_in b.red_cut) creator)
+    (c.get-low.ensures ∙ ap (index_in b.green_cut) creator) (c.get-high.ensures ∙ ap (index_in b.red_cut) creator)
     index (index - c.get-low.result) id c.loop-index.ids c.push_plain.new.ids (omega arith) c.loop-index-test.true (omega arith) creator (omega arith) c.in_ok-push_plain.ensures
     ∙ c.loop-index.invariant
 
@@ -47,5 +47,5 @@ returns c =
     let creator : c.known-creator.result ≡ suc c.args.slot = omega arith in
     sym (append-nothing c.loop-index.ids)
     ∙ ap (λ ids. c.loop-index.ids ++ ids) (sym (plain-ends b c.args.slot c.get-low.result c.get-high.result c.requires.lane
-    (c.get-low.ensures.value ∙ ap (index_in b.green_cut) creator) (c.get-high.ensures.value ∙ ap (index_in b.red_cut) creator) index (omega arith)))
+    (c.get-low.ensures ∙ ap (index_in b.green_cut) creator) (c.get-high.ensures ∙ ap (index_in b.red_cut) creator) index (omega arith)))
     ∙ c.loop-index.invariant

@@ -1,5 +1,6 @@
 use Rattle.std.proofs.Common.{◌≡◌, ◌∷◌, suc, fold, sym, ap, subst, ◌∙◌, rules, arith}
 use Rattle.cg_base.specs.Iterators.{members_left}
+use Rattle.cg_base.specs.Sets.{Ascends}
 use Rattle.cg_group.specs.State.{no_group}
 use Rattle.cg_model.specs.World.{World}
 use Rattle.cg_model.specs.Step.{begin_replica}
@@ -8,10 +9,10 @@ use Rattle.cg_world_events.proofs.beginning.begin_all.Goals as goal
 
 pub loop-p-init : goal.loop-p-init
 loop-p-init c =
-    let members = ap members_left c.into_iter-p-iterator.ensures.into_iter_gives ∙ c.iter-p-items.ensures.items in (
+    let members = ap members_left c.into_iter-p-iterator.ensures.into_iter_gives ∙ c.iter-p-items.ensures in (
       ap (λ set. fold (begin_replica c.args.set.now) c.args.state.now set) (members ∙ c.ids.ensures),
       subst (λ (w : World). AreStillDown w.group 0 (members_left c.into_iter-p-iterator.result)) (sym c.requires)
-          (subst (AreStillDown no_group 0) (sym members) (down-lower no_group 0 1 c.ids.result (omega arith) (down-first 1 c.ids.result c.iter-p-items.ensures.set.ascends))),
+          (subst (AreStillDown no_group 0) (sym members) (down-lower no_group 0 1 c.ids.result (omega arith) (down-first 1 c.ids.result (subst (Ascends 1) (sym c.ids.ensures) c.holds.ensures.ascends)))),
     )
 
 pub loop-p-preserved : goal.loop-p-preserved

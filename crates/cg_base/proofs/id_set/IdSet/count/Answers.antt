@@ -5,10 +5,10 @@ use Rattle.cg_base.proofs.id_set.IdSet.count.Goals as goal
 
 pub count-requires-clause-fits : goal.count-requires-clause-fits
 count-requires-clause-fits c =
-    let few : length (members_left c.iter.result) ≤ 32 = rw c.iter.ensures.items (length-IsSet c.args.self.now c.iter.ensures.set) in
+    let few : length (members_left c.iter.result) ≤ 32 = rw c.iter.ensures (length-IsSet c.args.self.now c.holds.ensures) in
     inl (omega arith)
 
 pub overflow_cast-result : goal.overflow_cast-result
 overflow_cast-result c =
-    let few : length (members_left c.iter.result) ≤ 32 = rw c.iter.ensures.items (length-IsSet c.args.self.now c.iter.ensures.set) in
+    let few : length (members_left c.iter.result) ≤ 32 = rw c.iter.ensures (length-IsSet c.args.self.now c.holds.ensures) in
     omega (arith, c.count.ensures.bound)

@@ -7,4 +7,4 @@ pub returns : goal.returns
 returns c =
     let none : members_left c.loop-id.id-iterator ≡ [] = search rules in
     let all : c.loop-id.weighted ≡ fold put_once [] c.args.set.now = rw none at c.loop-id.invariant in
-    all ∙ each_once-is c.args.set.now c.iter-id-items.ensures.set
+    all ∙ each_once-is c.args.set.now c.holds.ensures

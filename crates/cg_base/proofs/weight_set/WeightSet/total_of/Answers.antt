@@ -21,11 +21,11 @@ loop-slot-preserved c =
     let small = c.self.invariant.small slot in
     elim c.if-contains.branch [
       | then-contains w ↦
-          let there : has present (slot + 1) ≡ true = rw c.known.ensures at (sym c.contains.ensures.value ∙ w.if-contains.true) in
+          let there : has present (slot + 1) ≡ true = rw c.known.ensures at (sym c.contains.ensures ∙ w.if-contains.true) in
           let counts : counted (array_slot slots) present (slot + 1) ≡ get_or slots slot 0 = rw there here in
           (omega (arith, more, counts, w.sum-is, w.from-sum.ensures, c.loop-slot.invariant.0), omega (arith, small, w.sum-is, w.from-sum.ensures, c.loop-slot.invariant.1))
       | else-contains w ↦
-          let away : has present (slot + 1) ≡ false = rw c.known.ensures at (sym c.contains.ensures.value ∙ w.if-contains.false) in
+          let away : has present (slot + 1) ≡ false = rw c.known.ensures at (sym c.contains.ensures ∙ w.if-contains.false) in
           let counts : counted (array_slot slots) present (slot + 1) ≡ 0 = rw away in
           (omega (arith, more, counts, w.sum-is, c.loop-slot.invariant.0), omega (arith, w.sum-is, c.loop-slot.invariant.1))
     ]

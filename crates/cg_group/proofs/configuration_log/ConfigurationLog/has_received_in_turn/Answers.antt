@@ -8,4 +8,4 @@ returns-in-Some g c = λ yes earlier pos le same.
     let at = rw c.as_slice.ensures.value at (sym c.at_place.ensures ∙ ap option_copied c.in-Some.is) in
     let senders = rw (← c.self.view_is) at same in
     rw (← c.self.view_is)
-    (in_turn-has c.self.inside.members c.self.inside.ordered.items c.args.p c.args.place earlier c.in-Some.placed.now c.self.invariant.2 at (sym c.contains.ensures.value ∙ yes) pos le senders)
+    (in_turn-has c.self.inside.members c.self.inside.ordered.items c.args.p c.args.place earlier c.in-Some.placed.now c.self.invariant.2 at (sym c.contains.ensures ∙ yes) pos le senders)

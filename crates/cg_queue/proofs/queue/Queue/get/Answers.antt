@@ -12,7 +12,7 @@ pub returns-in-Some : goal.returns-in-Some
 returns-in-Some c =
     let b = parts_of c.self.inside.body in
     let id = c.args.id in
-    let green : c.get-green.result ≡ index_in b.green_cut id.creator = c.get-green.ensures.value in
+    let green : c.get-green.result ≡ index_in b.green_cut id.creator = c.get-green.ensures in
     let i = id.index - c.get-green.result - 1 in
     let there = c.in-Some.ensures ∙ ap (λ k. slice_get (b.reds k) i) c.lane_of-slot.ensures.value in
     ap (option_map (λ r. r.action)) there ∙ sym (found-red b id c.self.invariant c.lane_of-slot.ensures.creator i (omega arith)) ∙ ap (λ q. action_of q id) c.self.view_is
@@ -21,7 +21,7 @@ pub returns-in-None : goal.returns-in-None
 returns-in-None c =
     let b = parts_of c.self.inside.body in
     let id = c.args.id in
-    let green : c.get-green.result ≡ index_in b.green_cut id.creator = c.get-green.ensures.value in
+    let green : c.get-green.result ≡ index_in b.green_cut id.creator = c.get-green.ensures in
     let i = id.index - c.get-green.result - 1 in
     let there = c.in-None.ensures ∙ ap (λ k. slice_get (b.reds k) i) c.lane_of-slot.ensures.value in
     ap (option_map (λ r. r.action)) there ∙ sym (found-red b id c.self.invariant c.lane_of-slot.ensures.creator i (omega arith)) ∙ ap (λ q. action_of q id) c.self.view_is
@@ -30,7 +30,7 @@ pub returns-then-kept-behind : goal.returns-then-kept-behind
 returns-then-kept-behind c =
     let b = parts_of c.self.inside.body in
     let id = c.args.id in
-    let green : c.get-green.result ≡ index_in b.green_cut id.creator = c.get-green.ensures.value in
+    let green : c.get-green.result ≡ index_in b.green_cut id.creator = c.get-green.ensures in
     let kept : c.len-kept.result ≡ length (b.positions (lane_of id)) = c.len-kept.ensures ∙ ap (λ k. length (b.positions k)) c.lane_of-slot.ensures.value in
     sym (found-none b id c.self.invariant c.lane_of-slot.ensures.creator (omega arith) (omega arith)) ∙ ap (λ q. action_of q id) c.self.view_is
 
@@ -38,7 +38,7 @@ pub overflow_sub-at : goal.overflow_sub-at
 overflow_sub-at c =
     let b = parts_of c.self.inside.body in
     let id = c.args.id in
-    let green : c.get-green.result ≡ index_in b.green_cut id.creator = c.get-green.ensures.value in
+    let green : c.get-green.result ≡ index_in b.green_cut id.creator = c.get-green.ensures in
     let kept : c.len-kept.result ≡ length (b.positions (lane_of id)) = c.len-kept.ensures ∙ ap (λ k. length (b.positions k)) c.lane_of-slot.ensures.value in
     let i = c.len-kept.result - (c.get-green.result - id.index) - 1 in
     let there = sym (c.in-Some-get.ensures ∙ ap (λ k. slice_get (b.positions k) i) c.lane_of-slot.ensures.value) in
@@ -50,7 +50,7 @@ pub overflow_sub-at-in-Some-get : goal.overflow_sub-at-in-Some-get
 overflow_sub-at-in-Some-get c =
     let b = parts_of c.self.inside.body in
     let id = c.args.id in
-    let green : c.get-green.result ≡ index_in b.green_cut id.creator = c.get-green.ensures.value in
+    let green : c.get-green.result ≡ index_in b.green_cut id.creator = c.get-green.ensures in
     let kept : c.len-kept.result ≡ length (b.positions (lane_of id)) = c.len-kept.ensures ∙ ap (λ k. length (b.positions k)) c.lane_of-slot.ensures.value in
     let i = c.len-kept.result - (c.get-green.result - id.index) - 1 in
     let there = sym (c.in-Some-get.ensures ∙ ap (λ k. slice_get (b.positions k) i) c.lane_of-slot.ensures.value) in
@@ -62,7 +62,7 @@ pub returns-in-Some-get : goal.returns-in-Some-get
 returns-in-Some-get c =
     let b = parts_of c.self.inside.body in
     let id = c.args.id in
-    let green : c.get-green.result ≡ index_in b.green_cut id.creator = c.get-green.ensures.value in
+    let green : c.get-green.result ≡ index_in b.green_cut id.creator = c.get-green.ensures in
     let kept : c.len-kept.result ≡ length (b.positions (lane_of id)) = c.len-kept.ensures ∙ ap (λ k. length (b.positions k)) c.lane_of-slot.ensures.value in
     let i = c.len-kept.result - (c.get-green.result - id.index) - 1 in
     let there = sym (c.in-Some-get.ensures ∙ ap (λ k. slice_get (b.positions k) i) c.lane_of-slot.ensures.value) in

@@ -21,7 +21,7 @@ invariant_of-self-2 c =
     let same = c.name_of-id.ensures.value in
     let small : a.id.index < 2 ^ 64 = subst (λ (id : ActionId). id.index < 2 ^ 64) same c.name_of-id.ensures.small in
     let index : c.name_of-id.result.index ≡ a.id.index = ap (λ (n : ActionId). n.index) same in
-    let cut : c.get-known.result ≡ index_in b.red_cut a.id.creator = c.get-known.ensures.value ∙ ap (λ (n : ActionId). index_in b.red_cut n.creator) same in
+    let cut : c.get-known.result ≡ index_in b.red_cut a.id.creator = c.get-known.ensures ∙ ap (λ (n : ActionId). index_in b.red_cut n.creator) same in
     let next : a.id.index ≡ suc (index_in b.red_cut a.id.creator) = omega arith in
     let added = c.add_yellow.ensures ∙ ap (λ p. added_red (with_name p a.id) a true) c.make_yellow_room.ensures.same in
     subst IsSound (sym added) (both-sound b a c.self.invariant c.name_of-id.ensures.creator small next)
@@ -33,7 +33,7 @@ returns c =
     let same = c.name_of-id.ensures.value in
     let small : a.id.index < 2 ^ 64 = subst (λ (id : ActionId). id.index < 2 ^ 64) same c.name_of-id.ensures.small in
     let index : c.name_of-id.result.index ≡ a.id.index = ap (λ (n : ActionId). n.index) same in
-    let cut : c.get-known.result ≡ index_in b.red_cut a.id.creator = c.get-known.ensures.value ∙ ap (λ (n : ActionId). index_in b.red_cut n.creator) same in
+    let cut : c.get-known.result ≡ index_in b.red_cut a.id.creator = c.get-known.ensures ∙ ap (λ (n : ActionId). index_in b.red_cut n.creator) same in
     let next : a.id.index ≡ suc (index_in b.red_cut a.id.creator) = omega arith in
     let added = c.add_yellow.ensures ∙ ap (λ p. added_red (with_name p a.id) a true) c.make_yellow_room.ensures.same in
     ap (λ q. marked_yellow q a) (sym c.self.view_is)

@@ -12,7 +12,7 @@ pub returns-then-is_flagged-clause-ok : goal.returns-then-is_flagged-clause-ok
 returns-then-is_flagged-clause-ok c =
     let b = parts_of c.self.inside.body in
     let id = c.args.id.now in
-    let green : c.get-green.result ≡ index_in b.green_cut id.creator = c.get-green.ensures.value in
+    let green : c.get-green.result ≡ index_in b.green_cut id.creator = c.get-green.ensures in
     let known : id.index ≤ index_in b.red_cut id.creator = subst (λ q. id.index ≤ index_in q.red_cut id.creator) (sym c.self.view_is) c.requires in
     let slot = c.lane_of-slot.ensures.value in
     let i : id.index - c.get-green.result - 1 ≡ id.index - index_in b.green_cut id.creator - 1 = omega arith in
@@ -30,7 +30,7 @@ pub invariant_of-self-2 : goal.invariant_of-self-2
 invariant_of-self-2 c =
     let b = parts_of c.self.inside.body in
     let id = c.args.id.now in
-    let green : c.get-green.result ≡ index_in b.green_cut id.creator = c.get-green.ensures.value in
+    let green : c.get-green.result ≡ index_in b.green_cut id.creator = c.get-green.ensures in
     let known : id.index ≤ index_in b.red_cut id.creator = subst (λ q. id.index ≤ index_in q.red_cut id.creator) (sym c.self.view_is) c.requires in
     let i : id.index - c.get-green.result - 1 ≡ id.index - index_in b.green_cut id.creator - 1 = omega arith in
     let above : index_in b.green_cut id.creator < id.index = omega arith in
@@ -44,7 +44,7 @@ pub returns-clause-ok : goal.returns-clause-ok
 returns-clause-ok c =
     let b = parts_of c.self.inside.body in
     let id = c.args.id.now in
-    let green : c.get-green.result ≡ index_in b.green_cut id.creator = c.get-green.ensures.value in
+    let green : c.get-green.result ≡ index_in b.green_cut id.creator = c.get-green.ensures in
     let known : id.index ≤ index_in b.red_cut id.creator = subst (λ q. id.index ≤ index_in q.red_cut id.creator) (sym c.self.view_is) c.requires in
     let above : index_in b.green_cut id.creator < id.index = omega arith in
     let slot = c.lane_of-slot.ensures.value in

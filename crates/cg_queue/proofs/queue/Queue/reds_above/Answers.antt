@@ -10,7 +10,7 @@ returns c =
     let b = parts_of c.self.inside.body in
     let creator = c.args.creator in
     let index = c.args.index in
-    let first : c.saturating_sub-first.result ≡ index - index_in b.green_cut creator = c.saturating_sub-first.ensures ∙ ap (λ n. index - n) c.get.ensures.value in
+    let first : c.saturating_sub-first.result ≡ index - index_in b.green_cut creator = c.saturating_sub-first.ensures ∙ ap (λ n. index - n) c.get.ensures in
     c.in_ok-copy_reds_from.ensures
     ∙ ap (λ xs. xs ++ actions_in (drop c.saturating_sub-first.result (b.reds c.lane_of-slot.result))) c.new-list.ensures
     ∙ ap (λ n. actions_in (drop n (b.reds c.lane_of-slot.result))) first

@@ -11,4 +11,4 @@ returns c =
     let w = c.args.self.now in
     let none : members_left c.loop-p.p-iterator ≡ [] = search rules in
     sym (ap (fold (with_left w) c.loop-p.left) none) ∙ c.loop-p.invariant
-    ∙ chosen (is_left w) (up_replicas w) (subst IsSet c.up_replicas.ensures c.iter-p-items.ensures.set)
+    ∙ chosen (is_left w) (up_replicas w) (subst IsSet c.up_replicas-up.ensures c.holds.ensures)
