@@ -19,6 +19,7 @@ pub(crate) fn order_oldest<M: Drop>(
     ensures group { group_of logs.new roster.new ≡ order (group_of logs.old roster.old) p }
     ensures room { RoomForAll logs.old roster.old → RoomForAll logs.new roster.new }
 {
+    roster.holds();
     let conf = roster.regular_in(p);
     match roster.take_oldest(p) {
         Some(message) => append_at(logs, conf, p, message),
@@ -128,8 +129,10 @@ pub(crate) fn gather<M: Drop>(
     ensures err { OnErr result (group_of logs.new roster.new ≡ group_of logs.old roster.old) }
 {
     make_room(logs, roster.as_slice())?;
+    roster.holds();
     let senders = roster.senders();
     order_everything(logs, roster, &senders);
+    roster.holds();
     receive_everything(logs, roster.as_slice());
     Ok(())
 }

@@ -109,10 +109,9 @@ impl<M> Roster<M> {
         }
     }
 
-    /// The regular replicas whose messages wait for a place. It also says that the replicas ascend.
+    /// The regular replicas whose messages wait for a place.
     pub(crate) fn senders(&self) -> IdSet
-        ensures value { result ≡ senders_of self.now }
-        ensures roster { IsRoster self.now }
+        ensures { result ≡ senders_of self.now }
     {
         let mut senders = IdSet::empty();
         for member in self.members.as_slice() {
@@ -121,12 +120,17 @@ impl<M> Roster<M> {
         senders
     }
 
-    /// The replicas. It also says that they ascend.
     pub(crate) fn as_slice(&self) -> &[Member<M>]
-        ensures value { result.now ≡ self.now }
-        ensures roster { IsRoster self.now }
+        ensures { result.now ≡ self.now }
     {
         self.members.as_slice()
+    }
+
+    /// What always holds of a roster: the replicas ascend.
+    pub(crate) fn holds(&self)
+        ensures { IsRoster self.now }
+    {
+        let _ = &self.members;
     }
 
     /// A replica that isn't up comes up.
@@ -172,13 +176,12 @@ impl<M> Roster<M> {
         }
     }
 
-    /// The oldest message of a replica leaves, if there is one. It also says that the replicas ascend.
+    /// The oldest message of a replica leaves, if there is one.
     pub(crate) fn take_oldest(&mut self, p: ReplicaId) -> Option<M>
-        ensures taken { MatchOption result
+        ensures { MatchOption result
             ((self.new ≡ self.old) × (waits_of self.old p ≡ []))
             (λ m. (s : Standing M) × (rest : List M) × (found self.old p ≡ Some s) × (s.unordered ≡ m ∷ rest)
             × (self.new ≡ with_standing self.old (with_unordered s rest))) }
-        ensures roster { IsRoster self.old }
     {
         match place_of(self.members.as_slice(), p) {
             Some(i) => {

@@ -14,7 +14,7 @@ returns-clause-ok g c =
     let same = ap (λ (z : List (Configuration _)). record start { configurations = z }) c.make_room.ensures.same in
     let after = group_of c.order_everything.new.logs c.order_everything.new.roster in
     let ordered : after ≡ fold order_all start (regulars_of roster) =
-    c.order_everything.ensures ∙ ap (fold order_all (group_of c.make_room.new.logs roster)) c.senders-senders.ensures.value
-    ∙ senders-order c.make_room.new.logs roster c.senders-senders.ensures.roster ∙ ap (λ x. fold order_all x (regulars_of roster)) same in
-    let received = rw c.as_slice-2.ensures.value at c.receive_everything.ensures in
+    c.order_everything.ensures ∙ ap (fold order_all (group_of c.make_room.new.logs roster)) c.senders-senders.ensures
+    ∙ senders-order c.make_room.new.logs roster c.holds.ensures ∙ ap (λ x. fold order_all x (regulars_of roster)) same in
+    let received = rw c.as_slice-2.ensures at c.receive_everything.ensures in
     received ∙ ap (λ (x : GroupState _). fold receive_all x (regulars x)) ordered

@@ -3,8 +3,8 @@ use Rattle.std.proofs.lemmas.List.{drop_all}
 use Rattle.cg_group.proofs.RosterFacts.{senders-all, with_sender}
 use Rattle.cg_group.proofs.roster.Roster.senders.Goals as goal
 
-pub returns-clause-value : goal.returns-clause-value
-returns-clause-value g c =
+pub returns : goal.returns
+returns g c =
     let items = c.as_slice-member-items.result.now in
     let none = drop_all c.loop-member.member-index items c.loop-member-test.false in
     rw (← c.self.view_is, ← c.as_slice-member-items.ensures.value)
