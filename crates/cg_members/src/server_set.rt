@@ -150,10 +150,9 @@ impl ServerSet {
     ghost use Rattle.cg_members.specs.Listed.{AreServers};
     ghost use Rattle.cg_members.specs.View.{servers_left};
 
-    /// The servers, ascending. It also says what every set of servers is.
+    /// The servers, ascending.
     pub fn iter(&self) -> ServerIter
-        ensures items { servers_left result ≡ self.now }
-        ensures servers { AreServers self.now }
+        ensures { servers_left result ≡ self.now }
     {
         ServerIter {
             weights: self.weights.iter(),
