@@ -191,10 +191,9 @@ impl Db {
         Ok(found)
     }
 
-    /// The number of entries. It also says that they ascend.
+    /// The number of entries.
     pub fn count(&self) -> u64
-        ensures value { result ≡ length self.now }
-        ensures ascends { Ascends self.now }
+        ensures { result ≡ length self.now }
     {
         self.map.len() as u64
     }

@@ -96,6 +96,7 @@ fn write_entries(out: &mut Vec<u8>, db: &Db) -> Result<(), NoMemory>
     ensures ok { OnOk result (out.new.items ≡ out.old.items ++ list spelled_entry db.now) }
     ensures err { OnErr result (KeepsFront out.old.items out.new.items) }
 {
+    db.holds();
     let keys = db.keys()?;
     put_u32(out, db.count() as u32)?;
     for key in keys.as_slice() {

@@ -37,6 +37,6 @@ returns-clause-ok c =
     let every : take c.loop-key.key-index c.as_slice-key-items.result.now ≡ c.as_slice-key-items.result.now = take_all c.loop-key.key-index c.as_slice-key-items.result.now (omega arith) in
     let written = λ (key : List ℕ). flat_map spelled_entry (entry_at key (value_of db key)) in
     let all : c.loop-key.out.items ≡ c.put_u32.new.out.items ++ flat_map spelled_entry db =
-    c.loop-key.invariant ∙ ap (λ ks. c.put_u32.new.out.items ++ flat_map written ks) (every ∙ same) ∙ ap (λ es. c.put_u32.new.out.items ++ es) (written-all db c.count.ensures.ascends) in
-    let counted : number32 c.count.result ≡ number32 (length db) = ap number32 c.count.ensures.value in
+    c.loop-key.invariant ∙ ap (λ ks. c.put_u32.new.out.items ++ flat_map written ks) (every ∙ same) ∙ ap (λ es. c.put_u32.new.out.items ++ es) (written-all db c.holds.ensures) in
+    let counted : number32 c.count.result ≡ number32 (length db) = ap number32 c.count.ensures in
     rw (← counted) (grown_twice c.args.out.now.items (number32 c.count.result) c.put_u32.new.out.items (flat_map spelled_entry db) c.loop-key.out.items c.in_ok-put_u32.ensures.ok all)
