@@ -338,11 +338,9 @@ impl Queue {
         is_flagged(&self.body, slot, (id.index - cut - 1) as usize)
     }
 
-    /// How far each creator's actions are known: red or green, discarded ones too. The reds are exactly those between the
-    /// green cut and this one, and what is yellow is red; no yellow name stands twice.
+    /// How far each creator's actions are known: red or green, discarded ones too.
     pub fn red_cut(&self) -> Cut
-        ensures value { result ≡ self.now.red_cut }
-        ensures shown { IsShown self.now }
+        ensures { result ≡ self.now.red_cut }
     {
         self.body.red_cut
     }
@@ -368,7 +366,8 @@ impl Queue {
         self.body.green_cut.get(creator)
     }
 
-    /// What always holds of a queue.
+    /// What always holds of a queue: its reds are exactly those between its two cuts, what is yellow is red, and no
+    /// yellow name stands twice.
     pub fn holds(&self)
         ensures most { green_count self.now ≤ COUNT_LIMIT }
         ensures shown { IsShown self.now }
