@@ -223,12 +223,16 @@ impl<D: Disk> Follower<D> {
 
     /// How many actions of the global order it has taken. It takes no memory.
     pub fn cursor(&self) -> u64
-        ensures value { result ≡ self.now.now.cursor }
-
-        // The disk stands for the follower, and nothing on it is unsynced.
-        ensures holds { IsFollower (D.view self.now.disk) self.now.now }
+        ensures { result ≡ self.now.now.cursor }
     {
         self.taken.cursor
+    }
+
+    /// What always holds of a follower: its disk stands for it, and nothing on the disk is unsynced.
+    pub fn holds(&self)
+        ensures { IsFollower (D.view self.now.disk) self.now.now }
+    {
+        let _ = &self.taken;
     }
 
     /// What a query finds in its database.
