@@ -34,10 +34,16 @@ impl Cells {
     }
 
     pub(crate) fn count(&self) -> usize
-        ensures value { result ≡ length self.now }
-        ensures some { 1 ≤ length self.now }
+        ensures { result ≡ length self.now }
     {
         self.sets.as_slice().len()
+    }
+
+    /// What always holds of cells: there is at least one.
+    pub(crate) fn holds(&self)
+        ensures { 1 ≤ length self.now }
+    {
+        let _ = &self.sets;
     }
 
     /// The cell of this number, counted from 0.

@@ -89,6 +89,7 @@ impl GeneratorState {
         ensures ok { IfOk result (λ event. begun (regrouping self.old.cells draws) ≡ (event, self.new)) }
         ensures err { OnErr result (self.new ≡ self.old) }
     {
+        self.cells.holds();
         let count = self.cells.count();
         if count == 1 {
             return self.part(draws, 0);
@@ -127,6 +128,7 @@ impl GeneratorState {
         ensures err { OnErr result (self.new ≡ self.old) }
     {
         let mut draws = draws;
+        self.cells.holds();
         let count = self.cells.count();
         let i = draws.draw(count as u64) as usize;
         let one = self.cells.at(i);
