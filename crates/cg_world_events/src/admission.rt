@@ -1,7 +1,6 @@
 //! Why an event isn't admitted: the tests that the world makes itself, before those of its group.
 ghost use Rattle.std.specs.Prelude.{◌≡◌, ◌∷◌, [], false, is_some, IfOk};
 ghost use Rattle.cg_base.specs.Lists.{first_some};
-ghost use Rattle.cg_base.specs.Sets.{IsSet};
 ghost use Rattle.cg_group.specs.Refusals.{any_of, empty_set, not_up};
 ghost use Rattle.cg_model.specs.Admission.{unknown, has_left, joiner_left, never_named, not_green, is_weighted, cannot_rise, takes_part};
 ghost use Rattle.cg_model.specs.World.{replica_of};
@@ -204,22 +203,18 @@ fn first_left(state: &WorldState, set: &IdSet) -> Option<Reason>
     None
 }
 
-// Why the replicas can't leave their configuration together, as far as the group doesn't say. It also says that they are a set.
+// Why the replicas can't leave their configuration together, as far as the group doesn't say.
 pub(crate) fn split_refused(state: &WorldState, set: &IdSet) -> Option<Reason>
-    ensures reason { result ≡ first_some (empty_set set.now ∷ any_of (unknown state.now) set.now ∷ []) }
-    ensures set { IsSet set.now }
+    ensures { result ≡ first_some (empty_set set.now ∷ any_of (unknown state.now) set.now ∷ []) }
 {
-    set.holds();
     first_of(&[empty_set(set), first_unknown(state, set)])
 }
 
-// Why the replicas can't be the members of a new configuration, as far as the group doesn't say. It also says that they are a set.
+// Why the replicas can't be the members of a new configuration, as far as the group doesn't say.
 pub(crate) fn merge_refused(state: &WorldState, set: &IdSet) -> Option<Reason>
-    ensures reason { result ≡ first_some (empty_set set.now ∷ any_of (unknown state.now) set.now
+    ensures { result ≡ first_some (empty_set set.now ∷ any_of (unknown state.now) set.now
         ∷ any_of (not_up state.now.group) set.now ∷ any_of (has_left state.now) set.now ∷ []) }
-    ensures set { IsSet set.now }
 {
-    set.holds();
     first_of(&[
         empty_set(set),
         first_unknown(state, set),

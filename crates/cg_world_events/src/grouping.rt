@@ -16,6 +16,7 @@ pub(crate) fn split(going: &mut StepInProgress, set: IdSet) -> Result<(), GroupE
     requires booked { IsBooked going.old.world }
     ensures { Happens going.old (Split set) going.new result }
 {
+    set.holds();
     admit(split_refused(&going.state, &set))?;
     let handed = going.state.group.split(set)?;
     going.hand_out(handed)?;
@@ -29,6 +30,7 @@ pub(crate) fn merge(going: &mut StepInProgress, set: IdSet) -> Result<(), GroupE
     requires booked { IsBooked going.old.world }
     ensures { Happens going.old (Merge set) going.new result }
 {
+    set.holds();
     if let Some(reason) = merge_refused(&going.state, &set) {
         return Err(GroupErr::Refused(reason));
     }

@@ -15,6 +15,6 @@ returns-in-Some c =
       subst (λ (g : StepInProgress). first_refusal g.world (Merge set) ≡ Some c.in-Some.reason) c.going.view_is
           (subst (λ (w : World). first_refusal w (Merge set) ≡ Some c.in-Some.reason) c.deref.ensures
           (first_before (empty_set set ∷ any_of (unknown w) set ∷ any_of (not_up w.group) set ∷ any_of (has_left w) set ∷ []) (merge_refusal w.group set (left_replicas w) ∷ [])
-          c.in-Some.reason (sym c.merge_refused.ensures.reason ∙ c.in-Some.is))),
+          c.in-Some.reason (sym c.merge_refused.ensures ∙ c.in-Some.is))),
       refl,
     )
