@@ -37,11 +37,4 @@ impl BoxedSummary {
     {
         &self.inner
     }
-
-    pub fn into_summary(self) -> Summary
-        ensures { result ≡ self }
-    {
-        let BoxedSummary { inner } = self;
-        Box::into_inner(inner)
-    }
 }
