@@ -67,11 +67,11 @@ impl Part {
     {
         match self {
             Part::Greens { from, to } => {
-                let _last = *to;
+                prove!(made <= *to - *from);
                 Item::Green { at: *from + made }
             }
             Part::Reds { creator, from, to } => {
-                let _last = *to;
+                prove!(made <= *to - *from);
                 let index = *from + made;
                 Item::Red {
                     id: ActionId {
