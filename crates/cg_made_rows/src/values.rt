@@ -1,6 +1,6 @@
 //! Values of the relaxed database, each kept for a replica.
 
-ghost use Rattle.std.specs.Prelude.{◌≡◌, ◌<◌, not, List, vec_len, IfOk, OnOk};
+ghost use Rattle.std.specs.Prelude.{◌≡◌, not, List, IfOk};
 ghost use Rattle.std.specs.Cmp.Lexicographic.{pointwise};
 ghost use Rattle.cg_base.specs.Calls.{greatest_cut};
 ghost use Rattle.cg_base.specs.Ids.{same_id};
@@ -28,27 +28,12 @@ pub(crate) fn bring(
     ensures { AreKept rows.now values.new.items }
 {
     let slot = usize::from(p.get());
-    grow(alloc, rows, values, slot)?;
-    bring_one(alloc, rows, &mut values[slot], cut)
-}
-
-// values up to this slot; those that weren't there know nothing
-fn grow(
-    alloc: Global,
-    rows: &[ActionList],
-    values: &mut Vec<Relaxed>,
-    slot: usize,
-) -> Result<(), NoMemory>
-    requires { AreKept rows.now values.old.items }
-    ensures kept { AreKept rows.now values.new.items }
-    ensures ok { OnOk result (slot < vec_len values.new) }
-{
     relaxed_values_agree();
-    let _rows = rows.len();
+    // a value that wasn't there knows nothing
     while values.len() <= slot {
         values.push(Relaxed::new(alloc))?;
     }
-    Ok(())
+    bring_one(alloc, rows, &mut values[slot], cut)
 }
 
 fn bring_one(

@@ -1,5 +1,5 @@
 use Rattle.cg_made_rows.proofs.Keeping.{kept-new}
-use Rattle.cg_made_rows.proofs.values.grow.Goals as goal
+use Rattle.cg_made_rows.proofs.values.bring.Goals as goal
 
 pub loop-alloc-preserved : goal.loop-alloc-preserved
 loop-alloc-preserved c =
