@@ -110,13 +110,6 @@ impl<T: Limits> Limited<T> {
     }
 
     /// The things, in their order.
-    pub fn list(&self) -> &Row<T>
-        ensures value { result.now ≡ self.now }
-        ensures each { Each T.limit self.now }
-    {
-        &self.list
-    }
-
     pub fn as_slice(&self) -> &[T]
         ensures value { result.now ≡ self.now }
         ensures each { Each T.limit self.now }

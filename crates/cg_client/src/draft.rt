@@ -5,8 +5,8 @@ ghost use Rattle.cg_wire.specs.Limits.{IsMsg};
 ghost use Rattle.cg_client.specs.Drafts.{no_parts};
 
 use crate::DraftParts;
-use cg_action::{Action, ActionList, Limited};
-use cg_base::{ActionId, IdList, NoMemory, Row};
+use cg_action::{Action, Limited};
+use cg_base::{ActionId, NoMemory, Row};
 use cg_encoded::EncodedMsg;
 use cg_report::Reply;
 use cg_wire::Msg;
@@ -66,27 +66,27 @@ impl Draft {
     }
 
     /// The actions newly known, in the order of their marks.
-    pub fn known(&self) -> &ActionList
+    pub fn known(&self) -> &[Action]
         ensures value { result.now ≡ self.now.known }
         ensures each { Each IsAction self.now.known }
     {
-        self.known.list()
+        self.known.as_slice()
     }
 
     /// The names newly green, in order.
-    pub fn green(&self) -> &IdList
+    pub fn green(&self) -> &[ActionId]
         ensures value { result.now ≡ self.now.green }
         ensures each { Each IsActionId self.now.green }
     {
-        self.green.list()
+        self.green.as_slice()
     }
 
     /// The actions made.
-    pub fn made(&self) -> &ActionList
+    pub fn made(&self) -> &[Action]
         ensures value { result.now ≡ self.now.made }
         ensures each { Each IsAction self.now.made }
     {
-        self.made.list()
+        self.made.as_slice()
     }
 
     /// The messages to be sent.

@@ -186,7 +186,7 @@ impl<D: Disk> Engine<D> {
         ensures { (u : OnDisk) → Stands store.id (D.view store.disk).reads u →
             (let t = turn_of replica draft in EndsEvent D.view store count u t (commits u.content t) result) }
     {
-        match Row::from_slice(alloc, draft.green().as_slice()) {
+        match Row::from_slice(alloc, draft.green()) {
             Ok(green) => Engine::write(store, replica, draft, LastEvent { count, green }),
             Err(_) => {
                 draft.abandon();

@@ -35,9 +35,9 @@ pub(crate) fn change_record(
     ensures short { IfOk result (λ bytes. length bytes.items < LIST_LIMIT) }
 {
     let mut bytes = Vec::with_capacity(alloc, USUAL)?;
-    let known = draft.known().as_slice();
-    let green = draft.green().as_slice();
-    let made = draft.made().as_slice();
+    let known = draft.known();
+    let green = draft.green();
+    let made = draft.made();
     put_change(&mut bytes, stable, unwritten, known, green, made)?;
     if bytes.len() >= LIST_LIMIT {
         return Err(NoMemory);
