@@ -9,14 +9,14 @@ use Rattle.cg_base.specs.Ids.{has_name}
 use Rattle.cg_action.specs.declared.action.Action.{Action}
 use Rattle.cg_action.specs.declared.query.Query.{Query}
 use Rattle.cg_action.specs.declared.entry.DbEntry.{DbEntry}
-use Rattle.cg_db.specs.Apply.{apply, fold_actions}
+use Rattle.cg_db.specs.Apply.{apply, fold_actions_from, fold_actions}
 use Rattle.cg_db.specs.Find.{answer}
 use Rattle.cg_queue.specs.Queue.{green_count, names_of}
 use Rattle.cg_base.specs.Lists.{Each}
 use Rattle.cg_base.specs.EachLaws.{Each-filter, Each-append, Each-drop, Each-front}
 use Rattle.cg_group.specs.State.{is_up}
 use Rattle.cg_client.specs.Install.{actions_named}
-use Rattle.cg_client.specs.Queries.{plain_reds, behind, dirty_answer, view_of}
+use Rattle.cg_client.specs.Queries.{plain_reds, dirty_answer, view_of}
 use Rattle.cg_client.specs.Replica.{Held, Replica}
 use Rattle.cg_report.specs.declared.entry.Shown.TheVariants.{Dirty as ShownDirty}
 use Rattle.cg_report.specs.declared.line.UpLine.{UpLine}
@@ -118,8 +118,8 @@ module _ (steps : List Step) (c : Chronicle) (w : World) (stands : StandsBeside 
     dirty-is up view order q =
         let marked = actions_named h.queue h.queue.yellow ++ plain_reds h.queue in
         let run : List DbEntry → Action → List DbEntry = λ db a. (apply db a).db in
-        let db : fold_actions (greens_of c p ++ marked) ≡ behind h.db marked =
-        fold-append run [] (greens_of c p) marked ∙ ap (λ x. behind x marked) (sym (in-order c w stands p r runs).core.made_of.db) in
+        let db : fold_actions (greens_of c p ++ marked) ≡ fold_actions_from h.db marked =
+        fold-append run [] (greens_of c p) marked ∙ ap (λ x. fold_actions_from x marked) (sym (in-order c w stands p r runs).core.made_of.db) in
         ap (λ x. answer x q) (sym (ap fold_actions (known-are up view order) ∙ db))
 
 -- ---- runs

@@ -17,7 +17,7 @@ use Rattle.cg_db.specs.Ascending.{IsBefore, Ascends}
 use Rattle.cg_db.specs.Find.{answer, answer_of}
 use Rattle.cg_db.specs.TextOrderLaws.{same-refl}
 use Rattle.cg_db.specs.EntryLaws.{IsBefore-through}
-use Rattle.cg_client.specs.Queries.{behind}
+use Rattle.cg_db.specs.Apply.{fold_actions_from}
 use Rattle.cg_client.specs.Overlay.{named_part, has_key, with_mark, merged_keys, answer_with}
 use Rattle.cg_db.specs.AscendingLaws.{entry, Ascends-filter}
 use Rattle.cg_client.proofs.Splitting.{only, others, put_entry, value_of-only, value_of-missing, built, built_alone}
@@ -171,21 +171,21 @@ answered_in p db new up rest (Get key) = got_at p db new key rest (p key) refl
 answered_in p db new up rest (KeysOf prefix) = ap Keys (joined-is p (λ key. begins_with key prefix) db new up rest)
 answered_in p db new up rest CountAll = ap Count (counted p db new rest)
 
-answered_by : (db before after : List DbEntry) (actions : List Action) (q : Query) → before ≡ only (among (keys_in actions)) db → after ≡ behind before actions → Ascends db
-    → answer_with db before after q ≡ answer (behind db actions) q
+answered_by : (db before after : List DbEntry) (actions : List Action) (q : Query) → before ≡ only (among (keys_in actions)) db → after ≡ fold_actions_from before actions → Ascends db
+    → answer_with db before after q ≡ answer (fold_actions_from db actions) q
 answered_by db before after actions q part applied up =
     let p = among (keys_in actions) in
-    let run : IsPart p db (behind db actions) (behind (only p db) actions) = actions-run p db actions (named-all actions) up in
-    let is : after ≡ only p (behind db actions) = applied ∙ ap (λ (d : List DbEntry). behind d actions) part ∙ run.part in
+    let run : IsPart p db (fold_actions_from db actions) (fold_actions_from (only p db) actions) = actions-run p db actions (named-all actions) up in
+    let is : after ≡ only p (fold_actions_from db actions) = applied ∙ ap (λ (d : List DbEntry). fold_actions_from d actions) part ∙ run.part in
     ap (λ (d : List DbEntry). answer_with db d after q) part
     ∙ ap (λ (d : List DbEntry). answer_with db (only p db) d q) is
-    ∙ answered_in p db (behind db actions) run.up run.rest q
+    ∙ answered_in p db (fold_actions_from db actions) run.up run.rest q
 
-pub answered : (db before after : List DbEntry) (actions : List Action) (q : Query) → before ≡ named_part db actions → after ≡ behind before actions → Ascends db
-    → answer_with db before after q ≡ answer (behind db actions) q
+pub answered : (db before after : List DbEntry) (actions : List Action) (q : Query) → before ≡ named_part db actions → after ≡ fold_actions_from before actions → Ascends db
+    → answer_with db before after q ≡ answer (fold_actions_from db actions) q
 answered db before after actions q part applied up = answered_by db before after actions q (part ∙ named_part-is db actions up) applied up
 
 pub answered_ok : {E : Type 0} (db before after : List DbEntry) (actions : List Action) (q : Query) (r : Result Answer E) → IfOk r (λ found. found ≡ answer_with db before after q)
-    → before ≡ named_part db actions → after ≡ behind before actions → Ascends db → IfOk r (λ found. found ≡ answer (behind db actions) q)
+    → before ≡ named_part db actions → after ≡ fold_actions_from before actions → Ascends db → IfOk r (λ found. found ≡ answer (fold_actions_from db actions) q)
 answered_ok db before after actions q (Ok found) is part applied up = is ∙ answered db before after actions q part applied up
 answered_ok db before after actions q (Err fault) is part applied up = tt

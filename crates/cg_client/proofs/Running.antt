@@ -14,8 +14,7 @@ use Rattle.cg_action.specs.declared.action.Action.{Action}
 use Rattle.cg_action.specs.declared.entry.DbEntry.{DbEntry}
 use Rattle.cg_db.specs.Map.{value_of, put, remove, has_value}
 use Rattle.cg_db.specs.Ascending.{Ascends}
-use Rattle.cg_db.specs.Apply.{Ran, Changed, Aborts, Overflows, number_of, add_number, add_to, move_number, run_command, run_commands, apply_kind, apply}
-use Rattle.cg_client.specs.Queries.{behind}
+use Rattle.cg_db.specs.Apply.{Ran, Changed, Aborts, Overflows, number_of, add_number, add_to, move_number, run_command, run_commands, apply_kind, apply, fold_actions_from}
 use Rattle.cg_client.specs.Overlay.{keys_of, commands_of}
 use Rattle.cg_db.specs.AscendingLaws.{Ascends-put, Ascends-filter}
 use Rattle.cg_client.proofs.Splitting.{only, others, only-put, only-unput, only-remove, only-unremoved, value_of-only}
@@ -155,13 +154,13 @@ kind-runs p db (Update cmds query) every up = commands-run p db 0 cmds (Changed 
 kind-runs p db (Join joiner weight) every up = record { part = refl; rest = refl; up = up }
 kind-runs p db (Leave server) every up = record { part = refl; rest = refl; up = up }
 
-pub actions-run : (p : List ℕ → Bool) (db : List DbEntry) (actions : List Action) → EveryIn p actions → Ascends db → IsPart p db (behind db actions) (behind (only p db) actions)
+pub actions-run : (p : List ℕ → Bool) (db : List DbEntry) (actions : List Action) → EveryIn p actions → Ascends db → IsPart p db (fold_actions_from db actions) (fold_actions_from (only p db) actions)
 actions-run p db [] every up = record { part = refl; rest = refl; up = up }
 actions-run p db (a ∷ actions) every up =
     let one : IsPart p db (apply db a).db (apply (only p db) a).db = kind-runs p db a.kind every.0 up in
-    let more : IsPart p (apply db a).db (behind (apply db a).db actions) (behind (only p (apply db a).db) actions) = actions-run p (apply db a).db actions every.1 one.up in
+    let more : IsPart p (apply db a).db (fold_actions_from (apply db a).db actions) (fold_actions_from (only p (apply db a).db) actions) = actions-run p (apply db a).db actions every.1 one.up in
     record {
-      part = ap (λ (d : List DbEntry). behind d actions) one.part ∙ more.part;
+      part = ap (λ (d : List DbEntry). fold_actions_from d actions) one.part ∙ more.part;
       rest = more.rest ∙ one.rest;
       up = more.up;
     }

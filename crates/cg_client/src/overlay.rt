@@ -5,7 +5,7 @@ ghost use Rattle.cg_action.specs.declared.query.Query.TheVariants.{Keys as KeysO
 ghost use Rattle.cg_db.specs.Find.{answer};
 ghost use Rattle.cg_action.specs.declared.answer.Answer.TheVariants.{Keys};
 ghost use Rattle.cg_base.specs.Lists.{Each};
-ghost use Rattle.cg_client.specs.Queries.{behind};
+ghost use Rattle.cg_db.specs.Apply.{fold_actions_from};
 ghost use Rattle.cg_client.specs.Overlay.{with_key, with_command, with_commands, with_action, named_part, has_key, with_mark, merged_keys, answer_with};
 
 use cg_action::{Action, ActionList, Answer, Cmd, Kind, Limited, Query, TxtList, Value};
@@ -21,7 +21,7 @@ pub(crate) fn answer_behind(
     actions: Limited<Action>,
     q: &Query,
 ) -> Result<Answer, NoMemory>
-    ensures { IfOk result (λ found. found ≡ answer (behind db.now actions) q.now) }
+    ensures { IfOk result (λ found. found ≡ answer (fold_actions_from db.now actions) q.now) }
 {
     db.holds();
     let list = actions.into_list();
@@ -90,7 +90,7 @@ fn take_key(alloc: Global, db: &Db, part: &mut Db, key: &Txt) -> Result<(), NoMe
 // the database behind these actions
 fn apply_all(db: &mut Db, actions: ActionList) -> Result<(), NoMemory>
     requires { Each IsAction actions }
-    ensures { OnOk result (db.new ≡ behind db.old actions) }
+    ensures { OnOk result (db.new ≡ fold_actions_from db.old actions) }
 {
     for a in actions.into_vec() {
         let _ = db.apply(&a)?;

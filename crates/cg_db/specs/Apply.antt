@@ -75,6 +75,10 @@ apply_kind db (Leave server) = record { db = db; effect = Done }
 abbrev pub apply : List DbEntry → Action → Applied
 apply db action = apply_kind db action.kind
 
+-- a database after these actions
+abbrev pub fold_actions_from : List DbEntry → List Action → List DbEntry
+fold_actions_from db actions = fold (λ db action. (apply db action).db) db actions
+
 -- the database that a list of actions makes of the empty one
 abbrev pub fold_actions : List Action → List DbEntry
-fold_actions actions = fold (λ db action. (apply db action).db) [] actions
+fold_actions actions = fold_actions_from [] actions
