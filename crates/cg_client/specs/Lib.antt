@@ -2,6 +2,7 @@ pub mod Replica
 pub mod Turn
 pub mod Drafts
 pub mod Marks
+pub mod Noting
 pub mod Requests
 pub mod Calls
 pub mod Summary

@@ -5,6 +5,7 @@ ghost use Rattle.cg_action.specs.ActionLimits.{IsAction};
 ghost use Rattle.cg_db.specs.Apply.{apply};
 ghost use Rattle.cg_db.specs.Find.{answer, query_of};
 ghost use Rattle.cg_client.specs.Drafts.{turn_with};
+ghost use Rattle.cg_client.specs.Noting.{Notes};
 ghost use Rattle.cg_client.specs.Replica.{State};
 ghost use Rattle.cg_client.specs.Marks.{is_unmade, can_be_green, after_owed, is_first, given_to, place_green, mark_green, mark_green_at, mark_red, mark_yellow, marked};
 ghost use Rattle.cg_queue.specs.Queue.{marked_red, marked_yellow};
@@ -59,12 +60,26 @@ impl Core {
         ensures { OnOk result ((state : State) → turn_with self.new state draft.new ≡
             marked (turn_with self.old state draft.old) a (marked_red self.old.queue a)) }
     {
-        let id = name_of(&a);
         let copy = a.copy(self.held.alloc)?;
-        match self.held.queue.mark_red(a) {
+        let mark = self.held.queue.mark_red(a);
+        self.note_mark(draft, copy, mark)
+    }
+
+    // An action that the queue has placed is newly known, and isn't waited for any more.
+    fn note_mark(
+        &mut self,
+        draft: &mut Draft,
+        a: Action,
+        mark: Result<Mark, QueueFault>,
+    ) -> Result<(), NoMemory>
+        requires { IsAction a }
+        ensures { OnOk result (Notes self.old draft.old a mark self.new draft.new) }
+    {
+        match mark {
             Ok(Mark::Placed) => {
+                let id = name_of(&a);
                 drop_own(&mut self.held.own, &id);
-                draft.known.push(copy)
+                draft.known.push(a)
             }
             Ok(Mark::Known) => Ok(()),
             Err(QueueFault::Gap { .. }) => Ok(()),
@@ -90,17 +105,9 @@ impl Core {
         ensures { OnOk result ((state : State) → turn_with self.new state draft.new ≡
             marked (turn_with self.old state draft.old) a (marked_yellow self.old.queue a)) }
     {
-        let id = name_of(&a);
         let copy = a.copy(self.held.alloc)?;
-        match self.held.queue.mark_yellow(a) {
-            Ok(Mark::Placed) => {
-                drop_own(&mut self.held.own, &id);
-                draft.known.push(copy)
-            }
-            Ok(Mark::Known) => Ok(()),
-            Err(QueueFault::Gap { .. }) => Ok(()),
-            Err(QueueFault::NoMemory) => Err(NoMemory),
-        }
+        let mark = self.held.queue.mark_yellow(a);
+        self.note_mark(draft, copy, mark)
     }
 
     /// Marks an action green at the next place, where it is the next green one of its creator.
