@@ -25,7 +25,7 @@ use Rattle.cg_action.specs.ValueLaws.{key_field, value_field}
 use Rattle.cg_action.specs.declared.entry.DbEntry.{DbEntry}
 use Rattle.cg_db.specs.Map.{value_of, put, keys}
 use Rattle.cg_db.specs.Ascending.{IsBefore, Ascends}
-use Rattle.cg_db.specs.Limits.{AreEntries}
+use Rattle.cg_db.specs.Limits.{IsEntry, AreEntries}
 use Rattle.cg_db.specs.View.{entry_at}
 use Rattle.cg_db.specs.EntryLaws.{found_all}
 use Rattle.cg_db.specs.TextOrderLaws.{same-sym, before-trans, before-back, before-apart}
@@ -83,6 +83,11 @@ nothing-before (b ∷ key) some = refl
 first-behind : (xs : List DbEntry) → AreEntries xs → IsBefore [] xs
 first-behind [] entries = tt
 first-behind (e ∷ xs) entries = nothing-before e.key entries.0.key.1
+
+pub any_entry_field : IsField IsEntry spelled_entry (entry_reading [])
+any_entry_field =
+    field_has (FollowsEntry []) IsEntry spelled_entry (entry_reading []) (λ e has. record { key = has.0.0; value = has.1 })
+    (λ e has. ((has.key, nothing-before e.key has.key.1), has.value)) (entry_field [])
 
 pub entries_field : IsField IsDatabase (list spelled_entry) entries_reading
 unfolding entries_reading

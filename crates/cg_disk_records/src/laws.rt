@@ -1,15 +1,16 @@
-ghost use Rattle.std.specs.Prelude.{◌≡◌, ℕ, true, List, Some};
+ghost use Rattle.std.specs.Prelude.{◌≡◌, ℕ, true, List, [], Some};
 ghost use Rattle.cg_base.specs.Sets.{IsId};
 ghost use Rattle.cg_codec.specs.Fields.{list};
 ghost use Rattle.cg_codec.specs.Laws.{AreBytes, IsField, IsWhole, IsFrontOfNoOther};
 ghost use Rattle.cg_action.specs.Bytes.{spelled_action};
+ghost use Rattle.cg_db.specs.Limits.{IsEntry};
 ghost use Rattle.cg_disk_records.specs.declared.change.Change.{Change};
 ghost use Rattle.cg_disk_records.specs.declared.checkpoint.Checkpoint.{Checkpoint};
 ghost use Rattle.cg_disk_records.specs.Stored.{Stored};
 ghost use Rattle.cg_disk_records.specs.Change.{spelled_change};
 ghost use Rattle.cg_disk_records.specs.Checkpoint.{spelled_entry, spelled_reached, spelled_parts};
 ghost use Rattle.cg_disk_records.specs.Limits.{AreActions, IsChange, IsDatabase, IsReached, AreParts};
-ghost use Rattle.cg_disk_records.specs.Reading.{actions_reading, change_reading, entries_reading, reached_reading, checkpoint_reading};
+ghost use Rattle.cg_disk_records.specs.Reading.{actions_reading, change_reading, entry_reading, entries_reading, reached_reading, checkpoint_reading};
 ghost use Rattle.cg_disk_records.specs.Parts.{Fits, do_agree, change_in, Saved, checkpoint_in};
 ghost use Rattle.cg_disk_records.specs.Laws.{IsCheckpoint};
 
@@ -24,10 +25,11 @@ pub fn changes_are_exact()
     ensures apart { IsFrontOfNoOther IsChange spelled_change }
 {}
 
-/// The same of lists of actions, and of the entries of a database.
+/// The same of lists of actions, of the entries of a database, and of an entry with any key.
 pub fn lists_are_exact()
     ensures actions { IsField AreActions (list spelled_action) actions_reading }
     ensures entries { IsField IsDatabase (list spelled_entry) entries_reading }
+    ensures entry { IsField IsEntry spelled_entry (entry_reading []) }
 {}
 
 /// The same of the parts of a checkpoint, whether they agree or not, and of how far greens reach.

@@ -29,7 +29,7 @@ pub use checkpoint::{
     Checkpoint, KeptActions, Reached, decode_checkpoint, generation_of, read_checkpoint,
 };
 pub use commit_laws::what_is_held_agrees;
-pub use entries::{put_entries, take_entries};
+pub use entries::{put_entries, put_entry, take_entries, take_entry};
 pub use laws::{
     agreement_is_tested, changes_are_exact, checkpoints_are_exact, lists_are_exact, parts_are_exact,
 };

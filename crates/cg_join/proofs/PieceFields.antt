@@ -2,18 +2,16 @@
 use Rattle.std.proofs.Common.{◌≡◌, ℕ, zero, suc, ◌≤◌, List, [], ◌++◌, append-nil, Result, Ok, Err, refl, arith}
 use Rattle.cg_base.specs.Sets.{IsId}
 use Rattle.cg_codec.specs.declared.fault.CodecFault.{CodecFault}
-use Rattle.cg_codec.specs.Fields.{byte, number64, text}
+use Rattle.cg_codec.specs.Fields.{byte, number64}
 use Rattle.cg_codec.specs.Reading.{whole, done}
 use Rattle.cg_codec.specs.Taking.{Decodes}
 use Rattle.cg_codec.specs.Laws.{IsField, IsWhole, AreBytes}
 use Rattle.cg_codec.specs.FieldLaws.{field_whole, field_has, field_done, field_says}
 use Rattle.cg_codec.specs.ShapeLaws.{field_two, field_three, field_tagged, variant_of_one}
 use Rattle.cg_action.specs.declared.action.Action.{Action}
-use Rattle.cg_action.specs.declared.value.Value.{Value}
-use Rattle.cg_action.specs.ActionLimits.{IsAction, IsKey, IsValue}
-use Rattle.cg_action.specs.Bytes.{spelled_action, spelled_value}
-use Rattle.cg_action.specs.Reading.{key_reading, value_reading, action_reading}
-use Rattle.cg_action.specs.ValueLaws.{key_field, value_field}
+use Rattle.cg_action.specs.ActionLimits.{IsAction}
+use Rattle.cg_action.specs.Bytes.{spelled_action}
+use Rattle.cg_action.specs.Reading.{action_reading}
 use Rattle.cg_action.specs.declared.entry.DbEntry.{DbEntry}
 use Rattle.cg_db.specs.Limits.{IsEntry}
 use Rattle.cg_records.specs.declared.primary.Primary.{Primary}
@@ -24,7 +22,7 @@ use Rattle.cg_records.specs.RecordLaws.{number_field, any_id_field, prim_field}
 use Rattle.cg_disk_records.specs.declared.checkpoint.Reached.{Reached}
 use Rattle.cg_disk_records.specs.Checkpoint.{spelled_entry, spelled_reached}
 use Rattle.cg_disk_records.specs.Limits.{IsReached}
-use Rattle.cg_disk_records.specs.Reading.{reached_reading}
+use Rattle.cg_disk_records.specs.Reading.{entry_reading, reached_reading}
 use Rattle.cg_disk_records.specs.Laws.{Gives}
 use Rattle.cg_join.specs.declared.name.SnapshotName.{SnapshotName}
 use Rattle.cg_join.specs.declared.piece.Label.{Label}
@@ -34,7 +32,7 @@ use Rattle.cg_join.specs.declared.piece.PieceContent.TheVariants.{Start, Green, 
 use Rattle.cg_join.specs.declared.piece.Piece.{Piece}
 use Rattle.cg_join.specs.Limits.{IsSnapshotName, IsLabel, IsHead, IsPart, IsPiece}
 use Rattle.cg_join.specs.Bytes.{spelled_snapshot_name, spelled_label, spelled_head, spelled_part, spelled_piece}
-use Rattle.cg_join.specs.Reading.{name_reading, label_reading, head_reading, any_entry_reading, start_reading, green_reading, entry_part_reading, part_of_tag, part_reading, piece_reading}
+use Rattle.cg_join.specs.Reading.{name_reading, label_reading, head_reading, start_reading, green_reading, entry_part_reading, part_of_tag, part_reading, piece_reading}
 
 -- ---- the label
 
@@ -63,15 +61,6 @@ label_field =
 abbrev head_is : Primary → ℕ → Reached → Head
 head_is prim attempt_index reached = record { prim = prim; attempt_index = attempt_index; reached = reached }
 
-abbrev entry_is : List ℕ → Value → DbEntry
-entry_is key value = record { key = key; value = value }
-
-entry_field : IsField IsEntry spelled_entry any_entry_reading
-unfolding spelled_entry any_entry_reading
-entry_field =
-    field_two entry_is (λ e. e.key) (λ e. e.value) IsKey IsValue text spelled_value key_reading value_reading IsEntry spelled_entry
-    key_field value_field (λ e has. (has.key, has.value, refl, refl)) (λ key value k v. (record { key = k; value = v }, refl, refl))
-
 -- ---- the tags, and what is behind them
 
 abbrev part_tag : PieceContent → ℕ
@@ -90,17 +79,6 @@ part_behind End = []
 abbrev Brings : ℕ → PieceContent → Type 0
 Brings tag p = IsPart p × (part_tag p ≡ tag)
 
-entry_part_field : IsField (Brings 3) part_behind entry_part_reading
-unfolding entry_part_reading
-entry_part_field =
-    variant_of_one Entry IsEntry spelled_entry any_entry_reading (Brings 3) part_behind entry_field (λ entry e. ((e, refl), refl)) parts
-  where
-    parts : (p : PieceContent) → Brings 3 p → (entry : DbEntry) × IsEntry entry × (Entry entry ≡ p)
-    parts (Start head) has = absurd (omega arith)
-    parts (Green action) has = absurd (omega arith)
-    parts (Entry entry) has = (entry, has.0, refl)
-    parts End has = absurd (omega arith)
-
 end_field : IsField (Brings 4) part_behind (done End)
 end_field =
     field_says (λ (p : PieceContent). Brings 4 p) (λ (p : PieceContent). []) part_behind (done End) spelled
@@ -118,9 +96,10 @@ end_field =
     parts (Entry entry) has = absurd (omega arith)
     parts End has = refl
 
--- ---- parts and pieces; what is an action, and how far greens reach, are laws of the crates below
+-- ---- parts and pieces; what is an action, an entry, and how far greens reach, are laws of the crates below
 
-module _ (action_field : IsField IsAction spelled_action action_reading) (reached_field : IsField IsReached spelled_reached reached_reading) where
+module _ (action_field : IsField IsAction spelled_action action_reading) (entry_field : IsField IsEntry spelled_entry (entry_reading []))
+    (reached_field : IsField IsReached spelled_reached reached_reading) where
   head_field : IsField IsHead spelled_head head_reading
   unfolding spelled_head head_reading
   head_field =
@@ -149,6 +128,17 @@ module _ (action_field : IsField IsAction spelled_action action_reading) (reache
       parts (Start head) has = absurd (omega arith)
       parts (Green action) has = (action, has.0, refl)
       parts (Entry entry) has = absurd (omega arith)
+      parts End has = absurd (omega arith)
+
+  entry_part_field : IsField (Brings 3) part_behind entry_part_reading
+  unfolding entry_part_reading
+  entry_part_field =
+      variant_of_one Entry IsEntry spelled_entry (entry_reading []) (Brings 3) part_behind entry_field (λ entry e. ((e, refl), refl)) parts
+    where
+      parts : (p : PieceContent) → Brings 3 p → (entry : DbEntry) × IsEntry entry × (Entry entry ≡ p)
+      parts (Start head) has = absurd (omega arith)
+      parts (Green action) has = absurd (omega arith)
+      parts (Entry entry) has = (entry, has.0, refl)
       parts End has = absurd (omega arith)
 
   part_of_tag_field : (tag : ℕ) → 1 ≤ tag → tag ≤ 4 → IsField (Brings tag) part_behind (part_of_tag tag)

@@ -1,10 +1,9 @@
 -- How pieces are read, field by field from the left.
-use Rattle.std.specs.Prelude.{ℕ, ◌==◌, if◌then◌else◌}
+use Rattle.std.specs.Prelude.{ℕ, ◌==◌, [], if◌then◌else◌}
 use Rattle.cg_codec.specs.Reading.{Reading, ◌>>=◌, done, byte_between}
-use Rattle.cg_action.specs.Reading.{key_reading, value_reading, action_reading}
-use Rattle.cg_action.specs.declared.entry.DbEntry.{DbEntry}
+use Rattle.cg_action.specs.Reading.{action_reading}
 use Rattle.cg_records.specs.Reading.{take_number, take_id_above, take_prim}
-use Rattle.cg_disk_records.specs.Reading.{reached_reading}
+use Rattle.cg_disk_records.specs.Reading.{entry_reading, reached_reading}
 use Rattle.cg_join.specs.declared.name.SnapshotName.{SnapshotName}
 use Rattle.cg_join.specs.declared.piece.Label.{Label}
 use Rattle.cg_join.specs.declared.piece.Head.{Head}
@@ -32,13 +31,6 @@ head_reading = do
   reached ← reached_reading
   done (record { prim = prim; attempt_index = attempt_index; reached = reached })
 
--- an entry with any key
-unfoldable pub any_entry_reading : Reading DbEntry
-any_entry_reading = do
-  key ← key_reading
-  value ← value_reading
-  done (record { key = key; value = value })
-
 -- a part of each kind, behind its tag
 unfoldable pub start_reading : Reading PieceContent
 start_reading = head_reading >>= λ head. done (Start head)
@@ -47,7 +39,7 @@ unfoldable pub green_reading : Reading PieceContent
 green_reading = action_reading >>= λ action. done (Green action)
 
 unfoldable pub entry_part_reading : Reading PieceContent
-entry_part_reading = any_entry_reading >>= λ entry. done (Entry entry)
+entry_part_reading = entry_reading [] >>= λ entry. done (Entry entry)
 
 unfoldable pub part_of_tag : ℕ → Reading PieceContent
 part_of_tag tag =

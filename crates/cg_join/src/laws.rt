@@ -14,7 +14,7 @@ ghost use Rattle.cg_join.specs.Taking.{Takes};
 ghost use Rattle.cg_join.specs.Handing.{Proceeds};
 
 use cg_action::actions_are_exact;
-use cg_disk_records::parts_are_exact;
+use cg_disk_records::{lists_are_exact, parts_are_exact};
 
 /// Pieces are exactly their spellings: each one within the limits is read again as it was spelled, what is read is one
 /// within the limits, spelled so, and no spelling is the front of another one's.
@@ -24,6 +24,7 @@ pub fn pieces_are_exact()
     ensures apart { IsFrontOfNoOther IsPiece spelled_piece }
 {
     actions_are_exact();
+    lists_are_exact();
     parts_are_exact();
 }
 

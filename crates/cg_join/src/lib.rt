@@ -6,7 +6,6 @@
 //! becomes. When pieces are handed over, and what comes of a crash, is left to the layers above.
 #![tactic(auto)]
 
-mod entry;
 mod errors;
 mod gather;
 mod handing;

@@ -5,12 +5,12 @@ ghost use Rattle.cg_codec.specs.Taking.{unread_of, Takes, TakesWithMemory, Decod
 ghost use Rattle.cg_join.specs.Reading.{name_reading, label_reading, head_reading, start_reading, green_reading, entry_part_reading, part_of_tag, part_reading, piece_reading};
 ghost use Rattle.cg_join.specs.Laws.{GivesPiece};
 
-use crate::entry::take_entry;
 use crate::{Head, Label, Piece, PieceContent, SnapshotName, pieces_are_exact};
-use cg_action::{Boxed, take_action};
+use cg_action::{Boxed, DbEntry, take_action};
 use cg_codec::{CodecFault, Fields};
-use cg_disk_records::take_reached;
+use cg_disk_records::{take_entry, take_reached};
 use cg_records::{take_id, take_number, take_prim};
+use cg_text::Txt;
 use std::alloc::Global;
 
 /// The piece that all of the bytes spell. Where they spell none, the first fault from the left.
@@ -116,8 +116,11 @@ fn take_green(alloc: Global, f: &mut Fields<'_>) -> Result<PieceContent, CodecFa
 fn take_entry_part(alloc: Global, f: &mut Fields<'_>) -> Result<PieceContent, CodecFault>
     ensures { TakesWithMemory (λ p. p) entry_part_reading (unread_of f.old) (unread_of f.new) result }
 {
-    let entry = take_entry(alloc, f)?;
-    Ok(PieceContent::Entry(entry))
+    let mut after = *f;
+    let (key, value) = take_entry(alloc, &mut after, "")?;
+    let key = Txt::new(alloc, key)?;
+    *f = after;
+    Ok(PieceContent::Entry(DbEntry { key, value }))
 }
 
 #[tactic(auto, unfolding(crate::specs::Reading::head_reading))]

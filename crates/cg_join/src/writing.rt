@@ -4,12 +4,11 @@ ghost use Rattle.std.specs.Prelude.{◌≡◌, ◌++◌, OnOk, IfOk};
 ghost use Rattle.cg_join.specs.Bytes.{spelled_label, spelled_head, spelled_part, piece_bytes};
 ghost use Rattle.cg_join.specs.Limits.{IsHead, IsPart};
 
-use crate::entry::put_entry;
 use crate::{Head, Label, PieceContent};
 use cg_action::put_action;
 use cg_base::{Bytes, NoMemory};
 use cg_codec::{put_u8, put_u64};
-use cg_disk_records::put_reached;
+use cg_disk_records::{put_entry, put_reached};
 use cg_records::put_prim;
 use std::alloc::Global;
 
@@ -53,7 +52,7 @@ fn write_part(out: &mut Vec<u8>, part: &PieceContent) -> Result<(), NoMemory>
         }
         PieceContent::Entry(entry) => {
             put_u8(out, 3)?;
-            put_entry(out, entry)
+            put_entry(out, &entry.key, &entry.value)
         }
         PieceContent::End => put_u8(out, 4),
     }

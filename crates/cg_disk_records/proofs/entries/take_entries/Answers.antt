@@ -21,9 +21,9 @@ returns-in_err-last c =
 pub entries-preserved : goal.entries-preserved
 entries-preserved c =
     let entry = c.in_ok-last.ensures in (
-      EntriesSoFar-more (entries_reading (unread_of c.args.fields.now)) c.in_ok-count.count c.entries.counter c.entries.last.now c.entries.db c.take_entry.new.db (unread_of c.entries.after) (unread_of c.take_entry.new.fields)
+      EntriesSoFar-more (entries_reading (unread_of c.args.fields.now)) c.in_ok-count.count c.entries.counter c.entries.last.now c.entries.db c.take_into.new.db (unread_of c.entries.after) (unread_of c.take_into.new.fields)
           c.in_ok-last.last.now entry.0 c.entries.invariant.0 (omega arith) entry.1 entry.2,
-      entry-utf8 c.entries.last.now (entry_is c.in_ok-last.last.now entry.0) (unread_of c.entries.after) (unread_of c.take_entry.new.fields) entry.1,
+      entry-utf8 c.entries.last.now (entry_is c.in_ok-last.last.now entry.0) (unread_of c.entries.after) (unread_of c.take_into.new.fields) entry.1,
     )
 
 pub returns : goal.returns

@@ -9,6 +9,7 @@ use Rattle.cg_join.proofs.laws.pieces_are_exact.Goals as goal
 pub returns : goal.returns
 returns c =
     let action = c.actions_are_exact.ensures.action in
+    let entry = c.lists_are_exact.ensures.entry in
     let reached = c.parts_are_exact.ensures.reached in
-    let field : IsField IsPiece spelled_piece piece_reading = piece_field action reached in
-    record { field = field; whole = piece_whole action reached; apart = field_front IsPiece spelled_piece piece_reading field }
+    let field : IsField IsPiece spelled_piece piece_reading = piece_field action entry reached in
+    record { field = field; whole = piece_whole action entry reached; apart = field_front IsPiece spelled_piece piece_reading field }
