@@ -24,7 +24,6 @@ use Rattle.cg_agree_lemmas.specs.MadeSplit.{rising-set-list}
 use Rattle.cg_agree_lemmas.specs.MadeWorlds.{LifeSound, NodeSound}
 use Rattle.cg_agree.proofs.OthersShown.{EndFalls, InputShown, LifeFalls, NodeFalls, drop-shown, hand-shown, hands-shown}
 use Rattle.cg_agree_lemmas.specs.RestsBehind.{handed-ids, split-to}
-use Rattle.cg_agree_lemmas.specs.TurnRows.{OfDelivery}
 use Rattle.cg_agree_lemmas.specs.TurnWorlds.{life_at}
 use Rattle.cg_agree_lemmas.specs.WorldTurns.{IsBehind, from-same, hand-behind, handed-behind}
 use Rattle.cg_agree_lemmas.specs.DiskSwaps.{Swaps, downgrade-swaps, recover_under-cases}
@@ -48,6 +47,7 @@ use Rattle.cg_disk_records.specs.Crash.{Crashes, EventEnd, FailOnce, Runs, StopW
 use Rattle.cg_wire.specs.declared.message.Msg.{Msg}
 use Rattle.cg_disk_records.specs.CutRaiseLaws.{behind-rises, rising-behind}
 use Rattle.cg_client.specs.Joined.{piece_count}
+use Rattle.cg_model.specs.Recorded.{OfDelivery}
 
 -- ---- turns behind which it is down
 

@@ -2,7 +2,7 @@
 use Rattle.cg_states.specs.ReplicaStep.{Input, Deliveries, Asks, replica_step, after_delivery}
 use Rattle.cg_model.specs.FactsBooks.{AreShown, HoldsFine, IsActionShown, IsMessageShown, IsNameShown, LifeShown, NodeShown}
 use Rattle.cg_model.specs.Step.{after_event, hand_to, hand, hand_over}
-use Rattle.cg_agree_lemmas.specs.TurnRows.{OfDelivery, of-deliveries}
+use Rattle.cg_agree_lemmas.specs.TurnRows.{of-deliveries}
 use Rattle.cg_agree_lemmas.specs.BookedRows.{AllFine, fine-rule}
 use Rattle.cg_client.specs.Turn.{Turn, begin, with_held}
 use Rattle.std.proofs.Common.{◌≡◌, ◌++◌, ◌∷◌, ◌≤◌, ◌∙◌, ◌-◌, ◌+◌, Bool, List, None, Option, Some, arith, cond, drop, false, fold, inl, inr, length, map, refl, subst, suc, sym, true, zero, ℕ, []}
@@ -36,6 +36,7 @@ use Rattle.cg_disk_records.specs.Stored.{stored_of, whiten}
 use Rattle.cg_wire.specs.declared.message.Msg.{Msg}
 use Rattle.cg_wire.specs.declared.message.Msg.TheVariants.{Action as ActionMsg}
 use Rattle.cg_disk_records.specs.CutRaiseLaws.{behind-rises, rising-behind}
+use Rattle.cg_model.specs.Recorded.{OfDelivery}
 
 module _ (p n : ℕ) where
   -- ---- lists of names

@@ -15,12 +15,12 @@ use Rattle.cg_client.specs.Turn.{Turn, begin}
 use Rattle.cg_client.specs.Marks.{marked, place_green}
 use Rattle.cg_client.specs.Requests.{is_creating, next_action, create, create_kept, empty_buffer, buffer, settle, request_in, request}
 use Rattle.cg_client.specs.Summary.{redden, forget_own, own_to_red}
-use Rattle.cg_model.specs.Recorded.{OfMessage}
+use Rattle.cg_model.specs.Recorded.{OfMessage, OfDelivery}
 use Rattle.cg_states.specs.ReplicaStep.{Input, Deliveries, Asks, replica_step, after_delivery}
 use Rattle.cg_model.specs.World.{is_left_state}
 use Rattle.cg_model.specs.FactsReplica.{IsEmptyIn}
 use Rattle.cg_agree_lemmas.specs.TurnValues.{even-own_to_red}
-use Rattle.cg_agree_lemmas.specs.TurnRows.{IsRule, OfDelivery, of-deliveries}
+use Rattle.cg_agree_lemmas.specs.TurnRows.{IsRule, of-deliveries}
 use Rattle.cg_agree_lemmas.specs.DiskAhead.{IsUnnoted, IsFurther, OwnRuns, StaysBehind, further-refl, nil-more, stays-rule}
 
 -- any action may come

@@ -1,5 +1,5 @@
 -- The record of a commit leads from what stands on the disk to what the commit leaves.
-use Rattle.std.proofs.Common.{◌≡◌, suc, List, [], ◌∷◌, ◌++◌, fold, cond, Bool, true, false, not, ◌||◌, Option, Some, None, refl, sym, ap, ◌∙◌, subst, inl, inr, append-nil}
+use Rattle.std.proofs.Common.{◌≡◌, suc, List, [], ◌∷◌, ◌++◌, fold, cond, true, false, not, ◌||◌, Option, Some, None, refl, sym, ap, ◌∙◌, subst, inl, inr, append-nil}
 use Rattle.std.specs.Prelude.{◌==◌, option_and_then}
 use Rattle.std.proofs.lemmas.Bool.{or_parts, cases_Bool, eq-eqb, and_from, not-false}
 use Rattle.std.proofs.lemmas.Option.{none-some, same_Some}

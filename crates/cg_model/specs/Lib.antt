@@ -41,3 +41,5 @@ pub mod Recorded
 pub mod Following
 pub mod MadeLaws
 pub mod RunLaws
+pub mod RowLaws
+pub mod Computing

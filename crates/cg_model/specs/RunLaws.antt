@@ -1,7 +1,6 @@
 -- What a run comes to with one more step, and that its front is a run.
 use Rattle.std.proofs.Common.{◌≡◌, List, [], ◌∷◌, ◌++◌, map, refl, ap, ◌∙◌, append_assoc}
 use Rattle.std.proofs.lemmas.List.{map-append}
-use Rattle.cg_base.specs.declared.action_id.ActionId.{ActionId}
 use Rattle.cg_base.specs.ElementLaws.{flat-append}
 use Rattle.cg_report.specs.declared.entry.Placed.{Placed}
 use Rattle.cg_model.specs.World.{World}
