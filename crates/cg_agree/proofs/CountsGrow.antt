@@ -33,7 +33,8 @@ use Rattle.cg_model.specs.AdmissionCalls.{begun_already}
 use Rattle.cg_model.specs.Show.{ended}
 use Rattle.cg_model.specs.Run.{MayStand}
 use Rattle.cg_model.specs.Agreement.{may_move}
-use Rattle.cg_model.specs.Step.{quietly, hand_out, ask, name_also, begin_replica, arm_at, crash_at, recover_from, recover, joiner_replica, snapshot_for, without_snapshot, with_pieces, take_pieces, transfer, happens, world_step, downgrade}
+use Rattle.cg_model.specs.Step.{quietly, hand_out, ask, name_also, begin_replica, recover, joiner_replica, snapshot_for, without_snapshot, transfer, happens, world_step, downgrade}
+use Rattle.cg_model.specs.AtNode.{arm_at, crash_at, recover_from, with_pieces, take_pieces}
 use Rattle.cg_model.specs.Chronicle.{Chronicle}
 use Rattle.cg_model.specs.Looks.{greens_of, stood_of, on_disk, disk_held}
 use Rattle.cg_model.specs.FactsReplica.{IsCore, IsModeData}

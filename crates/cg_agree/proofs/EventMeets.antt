@@ -28,7 +28,8 @@ use Rattle.cg_model.specs.World.{NodeState, Up, Down, Node, TransferState, World
 use Rattle.cg_model.specs.Show.{StepInProgress, unshown, news_of_recovery}
 use Rattle.cg_model.specs.Agreement.{is_recovery_of}
 use Rattle.cg_model.specs.Looks.{on_disk, disk_held}
-use Rattle.cg_model.specs.Step.{quietly, hand, hand_over, ask, name_also, begin_replica, arm_at, arm, crash_at, recover_from, recover, joiner_replica, without_snapshot, take_pieces, recover_under}
+use Rattle.cg_model.specs.Step.{quietly, hand, hand_over, ask, name_also, begin_replica, arm, recover, joiner_replica, without_snapshot, recover_under}
+use Rattle.cg_model.specs.AtNode.{arm_at, crash_at, recover_from, take_pieces}
 use Rattle.cg_model.specs.FactsLists.{IsRising}
 use Rattle.cg_agree_lemmas.specs.ChronicleFacts.{node_of-set}
 use Rattle.cg_agree_lemmas.specs.HeldCommit.{recovered-id}
@@ -201,7 +202,7 @@ pub stop-meets : (w : World) (e : Event) (q p : ℕ) → Meets w e (quietly (opt
 stop-meets w e q p = at (node_of w q) refl where
   life : (s : Node) (l : NodeState) → s.life ≡ l → node_of w q ≡ Some s → Meets w e (quietly (crash_at w q l)) p
   life s (Up r disk) is found =
-      let v = bring_down w q (at_rest disk) [] in
+      let v = bring_down w q (Down (at_rest disk) []) in
       let nodes : (x : ℕ) → node_of v x ≡ node_of (set_life w q (Down (at_rest disk) [])) x = λ x. refl in
       elim (cases_eq p q) [
         | inr apart ↦ quiet-stays w v e p (set-kept w v q (Down (at_rest disk) []) p nodes apart)

@@ -23,7 +23,8 @@ use Rattle.cg_model.specs.AdmissionCalls.{begun_already}
 use Rattle.cg_model.specs.Run.{MayStand}
 use Rattle.cg_model.specs.Chronicle.{Chronicle}
 use Rattle.cg_model.specs.Looks.{on_disk, disk_held}
-use Rattle.cg_model.specs.Step.{quietly, name_also, snapshot_for, take_pieces, transfer, happens, downgrade}
+use Rattle.cg_model.specs.Step.{quietly, name_also, snapshot_for, transfer, happens, downgrade}
+use Rattle.cg_model.specs.AtNode.{take_pieces}
 use Rattle.cg_model.specs.Played.{StandsBeside}
 use Rattle.cg_agree_lemmas.specs.UnorderedKept.{first-none}
 use Rattle.cg_agree_lemmas.specs.MadeSplit.{rising-set-list}

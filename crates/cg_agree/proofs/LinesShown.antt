@@ -29,7 +29,7 @@ use Rattle.cg_model.specs.Agreement.{through}
 use Rattle.cg_model.specs.Noting.{chronicle_step}
 use Rattle.cg_model.specs.Played.{StandsBeside}
 use Rattle.cg_model.specs.Telling.{latest, last_line, last_of, printed}
-use Rattle.cg_model.specs.Touched.{new_lines}
+use Rattle.cg_model.specs.Show.{new_lines}
 use Rattle.cg_agree.proofs.PrimaryOne.{IsFoundFrom, found-all}
 use Rattle.cg_agree.proofs.RunForward.{IsStepOf}
 use Rattle.cg_equalities.specs.LineLaws.{one-line}

@@ -22,7 +22,8 @@ use Rattle.cg_model.specs.Admission.{first_refusal}
 use Rattle.cg_model.specs.Show.{ended}
 use Rattle.cg_model.specs.Run.{MayStand}
 use Rattle.cg_model.specs.Agreement.{may_move, is_recovery_of}
-use Rattle.cg_model.specs.Step.{quietly, hand_out, joiner_replica, snapshot_for, without_snapshot, with_pieces, take_pieces, transfer, happens, world_step}
+use Rattle.cg_model.specs.Step.{quietly, hand_out, joiner_replica, snapshot_for, without_snapshot, transfer, happens, world_step}
+use Rattle.cg_model.specs.AtNode.{with_pieces, take_pieces}
 use Rattle.cg_model.specs.Chronicle.{Chronicle}
 use Rattle.cg_model.specs.FactsReplica.{is_primary}
 use Rattle.cg_model.specs.Played.{StandsBeside}

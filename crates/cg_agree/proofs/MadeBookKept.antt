@@ -27,7 +27,8 @@ use Rattle.cg_model.specs.Run.{MayStand}
 use Rattle.cg_model.specs.Chronicle.{Chronicle}
 use Rattle.cg_model.specs.Attempts.{held_in}
 use Rattle.cg_model.specs.Looks.{greens_of, stood_of, on_disk, disk_held}
-use Rattle.cg_model.specs.Step.{quietly, ask, name_also, recover_from, joiner_replica, snapshot_for, without_snapshot, with_pieces, take_pieces, transfer, happens, world_step, downgrade}
+use Rattle.cg_model.specs.Step.{quietly, ask, name_also, joiner_replica, snapshot_for, without_snapshot, transfer, happens, world_step, downgrade}
+use Rattle.cg_model.specs.AtNode.{recover_from, with_pieces, take_pieces}
 use Rattle.cg_model.specs.FactsBooks.{LifeMade, MadeBook, MadeFits, NodeMade}
 use Rattle.cg_model.specs.FactsReplica.{IsCore, IsModeData}
 use Rattle.cg_model.specs.Played.{StandsBeside, with_world}

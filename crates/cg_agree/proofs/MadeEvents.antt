@@ -23,7 +23,8 @@ use Rattle.cg_model.specs.FactsBooks.{LifeMade, MadeFits, NodeMade}
 use Rattle.cg_model.specs.World.{NodeState, Up, Down, Node, TransferState, World, node_of, replica_of, bring_up, set_life}
 use Rattle.cg_model.specs.Show.{StepInProgress, ended}
 use Rattle.cg_model.specs.Run.{MayStand}
-use Rattle.cg_model.specs.Step.{quietly, hand_to, hand, hand_over, name_also, begin_replica, arm_at, crash_at, recover_from, joiner_replica, snapshot_for, without_snapshot, with_pieces, take_pieces, transfer, happens, world_step, downgrade}
+use Rattle.cg_model.specs.Step.{quietly, hand, hand_over, name_also, begin_replica, joiner_replica, snapshot_for, without_snapshot, transfer, happens, world_step, downgrade}
+use Rattle.cg_model.specs.AtNode.{hand_to, arm_at, crash_at, recover_from, with_pieces, take_pieces}
 use Rattle.cg_model.specs.Chronicle.{Chronicle}
 use Rattle.cg_model.specs.Looks.{on_disk, disk_held, stood_of}
 use Rattle.cg_model.specs.FactsLists.{IsRising}

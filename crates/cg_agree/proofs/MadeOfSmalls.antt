@@ -16,12 +16,13 @@ use Rattle.cg_client.specs.Replica.{Held, Replica}
 use Rattle.cg_states.specs.ReplicaStep.{Input, Deliveries, Asks as AsksOf}
 use Rattle.cg_schedule.specs.declared.event.Event.{Event}
 use Rattle.cg_schedule.specs.declared.event.Event.TheVariants.{Start, Split, Merge, Request, Weak, Dirty, Order, Recover, RecoverStopped, Downgrade, Show, ShowOrder, Gather, End, Receive, Deliver, Rounds, Stop, Fail, Join, Leave, Transfer}
-use Rattle.cg_model.specs.World.{Node, running, World, replica_of, left_replicas}
+use Rattle.cg_model.specs.World.{NodeState, Node, running, World, replica_of, left_replicas}
 use Rattle.cg_model.specs.Admission.{first_refusal, unknown, has_left, takes_part, never_named, joiner_left, not_green}
 use Rattle.cg_model.specs.AdmissionCalls.{begun_already}
 use Rattle.cg_model.specs.Run.{MayStand}
 use Rattle.cg_model.specs.Looks.{told_in, snapshot_of, disk_held}
-use Rattle.cg_model.specs.Step.{world_step, snapshot_for, is_struck}
+use Rattle.cg_model.specs.Step.{world_step, snapshot_for, stays_down}
+use Rattle.cg_model.specs.NodeLaws.{at_node_both}
 use Rattle.cg_model.specs.Chronicle.{Chronicle}
 use Rattle.cg_model.specs.Turns.{turns_of, taken}
 use Rattle.cg_model.specs.Small.{Small, Makes, Enters, Orders, Receives, Hands, Asks, Settles, Copies, Joins, small_step, Recovers}
@@ -204,7 +205,7 @@ module _ (c : Chronicle) (w : World) (same : IsSame w c.world) (sound : IsSound 
   made (Recover p) stand admitted = made-quietly (Recover p) (recover-made w p admitted) (tt, tt)
   made (RecoverStopped p call fill) stand admitted =
       made-quietly (RecoverStopped p call fill) (stopped-made w p call fill sound.nodes admitted)
-      (cond_both (is_struck w p (record { call = call; fault = StopWith fill })) [] (Recovers p ∷ []) (Each IsQuiet) (λ y. tt) (λ n. (tt, tt)))
+      (at_node_both (λ (life : NodeState). []) (Recovers p ∷ []) (Each IsQuiet) (λ life. tt) (tt, tt) w p (stays_down (record { call = call; fault = StopWith fill })))
   made (Downgrade p) stand admitted = made-quietly (Downgrade p) (downgrade-made w p sound.nodes) tt
   made (Show p) stand admitted = made-quietly (Show p) (show-made w p) tt
   made ShowOrder stand admitted = made-quietly ShowOrder (show_order-made w) tt

@@ -37,7 +37,8 @@ use Rattle.cg_model.specs.Looks.{core_of, disk_held, greens_of, on_disk, stood_o
 use Rattle.cg_model.specs.Noting.{played}
 use Rattle.cg_model.specs.Smalls.{copy_steps, ending, ending_as, gather_steps, join_steps, leaving_steps, may_make, smalls_in}
 use Rattle.cg_model.specs.Turns.{Taken, stands, taken, taken_as, turns_in, turns_of}
-use Rattle.cg_model.specs.Step.{is_struck}
+use Rattle.cg_model.specs.Step.{stays_down}
+use Rattle.cg_model.specs.NodeLaws.{at_node_both}
 use Rattle.cg_base.specs.declared.action_id.ActionId.{ActionId}
 use Rattle.cg_base.specs.FindLaws.{found_passes}
 use Rattle.cg_client.specs.Replica.{Held}
@@ -115,7 +116,7 @@ untold-smalls w (Join p joiner weight) is = untold-turns (λ q. Asks q (JoinKind
 untold-smalls w (Leave p server) is = untold-turns (λ q. Asks q (LeaveKind server) ∷ []) (λ q. (tt, tt)) (turns_of w (Leave p server))
 untold-smalls w (Stop p call fill) is = cond_both (call == 0) (Crashes p ∷ []) [] (Each IsUntold) (λ y. (tt, tt)) (λ n. tt)
 untold-smalls w (Recover p) is = (tt, tt)
-untold-smalls w (RecoverStopped p call fill) is = cond_both (is_struck w p (record { call = call; fault = StopWith fill })) [] (Recovers p ∷ []) (Each IsUntold) (λ y. tt) (λ n. (tt, tt))
+untold-smalls w (RecoverStopped p call fill) is = at_node_both (λ (life : NodeState). []) (Recovers p ∷ []) (Each IsUntold) (λ life. tt) (tt, tt) w p (stays_down (record { call = call; fault = StopWith fill }))
 untold-smalls w (Downgrade p) is = tt
 untold-smalls w (Transfer p joiner pieces) is = Each-weaker IsQuiet IsUntold quiet-untold (copy_steps w p joiner ++ join_steps w p joiner pieces) (transfer-quiet w p joiner pieces)
 untold-smalls w (Weak p query) is = tt

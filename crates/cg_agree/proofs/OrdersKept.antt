@@ -6,7 +6,8 @@ use Rattle.cg_schedule.specs.declared.event.Event.{Event}
 use Rattle.cg_schedule.specs.declared.event.Event.TheVariants.{Start, Split, Merge, Request, Weak, Dirty, Order, Recover, RecoverStopped, Downgrade, Show, ShowOrder, Gather, End, Receive, Deliver, Rounds, Stop, Fail, Join, Leave, Transfer}
 use Rattle.cg_group.specs.declared.delivery.Delivery.TheVariants.{Regular as RegularIn}
 use Rattle.cg_model.specs.FactsBooks.{AreShown, IsNameShown, KeepsUnshown, LifeIsDown, LifeToShow, MadeFits, OrderFits, NodeIsDown, NodeToShow}
-use Rattle.cg_model.specs.Step.{quietly, ask, hand_out, name_also, begin_replica, arm_at, arm, crash_at, stop, recover_from, recover, joiner_replica, snapshot_for, without_snapshot, take_pieces, transfer, happens, world_step, downgrade, recover_under}
+use Rattle.cg_model.specs.Step.{quietly, ask, hand_out, name_also, begin_replica, arm, stop, recover, joiner_replica, snapshot_for, without_snapshot, transfer, happens, world_step, downgrade, recover_under}
+use Rattle.cg_model.specs.AtNode.{arm_at, crash_at, recover_from, take_pieces}
 use Rattle.cg_model.specs.World.{NodeState, Up, Down, Node, TransferState, World, no_world, running, node_of, replica_of, bring_up}
 use Rattle.cg_model.specs.Show.{ended}
 use Rattle.cg_model.specs.Small.{Starts, small_step, Small}

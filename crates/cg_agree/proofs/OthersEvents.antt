@@ -5,7 +5,8 @@ use Rattle.cg_schedule.specs.declared.event.Event.{Event}
 use Rattle.cg_schedule.specs.declared.event.Event.TheVariants.{Start, Split, Merge, Request, Weak, Dirty, Order, Recover, RecoverStopped, Downgrade, Show, ShowOrder, Gather, End, Receive, Deliver, Rounds, Stop, Fail, Join, Leave, Transfer}
 use Rattle.cg_group.specs.declared.delivery.Delivery.TheVariants.{Transitional as TransitionalIn, Regular as RegularIn}
 use Rattle.cg_model.specs.FactsBooks.{AreShown, IsActionShown, IsMessageShown, IsNameShown, LifeIsDown, LifeShown, NodeIsDown, NodeShown, HoldsFine}
-use Rattle.cg_model.specs.Step.{quietly, hand, hand_over, name_also, begin_replica, arm_at, crash_at, recover_from, recover, joiner_replica, snapshot_for, without_snapshot, with_pieces, take_pieces, transfer, happens, world_step, downgrade}
+use Rattle.cg_model.specs.Step.{quietly, hand, hand_over, name_also, begin_replica, recover, joiner_replica, snapshot_for, without_snapshot, transfer, happens, world_step, downgrade}
+use Rattle.cg_model.specs.AtNode.{arm_at, crash_at, recover_from, with_pieces, take_pieces}
 use Rattle.cg_disk_records.specs.Stored.{recovery_turn as recover_disk}
 use Rattle.cg_model.specs.World.{NodeState, Up, Down, Node, TransferState, World, has_begun, node_of, replica_of, set_life, bring_up, bring_down}
 use Rattle.cg_group.specs.Events.{order, receive, gather, deliveries_at, handed_in_split, transitional_places, furthest, deliver, split, merge}
@@ -158,7 +159,7 @@ module _ (c : Chronicle) (w : World) (stands : StandsBeside c w) (p n : ℕ) (is
   stopped q = at (node_of w q) (is.nodes q) where
     life : (l : NodeState) → ((q ≡ p → ⊥) → LifeShown p n l) → AreShown p n (crash_at w q l)
     life (Up r disk) shown =
-        set-shown (bring_down w q (at_rest disk) []) q (Down (at_rest disk) []) (λ x. node_of-set w q (Down (at_rest disk) []) x) is.rising is.low
+        set-shown (bring_down w q (Down (at_rest disk) [])) q (Down (at_rest disk) []) (λ x. node_of-set w q (Down (at_rest disk) []) x) is.rising is.low
         (says-down (IsMessageShown p n) w.group q is.group) is.order (λ other. ((shown other).1, tt))
     life (Down disk green) shown = is
 

@@ -1,8 +1,9 @@
 -- While a replica is down nobody else has an action of it that wasn't shown as made: what the turns of an event make of that.
 use Rattle.cg_states.specs.ReplicaStep.{Input, Deliveries, Asks, replica_step, after_delivery}
 use Rattle.cg_model.specs.FactsBooks.{AreShown, HoldsFine, IsActionShown, IsMessageShown, IsNameShown, LifeShown, NodeShown}
-use Rattle.cg_model.specs.Step.{after_event, hand_to, hand, hand_over}
-use Rattle.cg_agree_lemmas.specs.TurnRows.{of-deliveries}
+use Rattle.cg_model.specs.Step.{hand, hand_over}
+use Rattle.cg_model.specs.AtNode.{after_event, hand_to}
+use Rattle.cg_agree_lemmas.specs.TurnRows.{OfDelivery, of-deliveries}
 use Rattle.cg_agree_lemmas.specs.BookedRows.{AllFine, fine-rule}
 use Rattle.cg_client.specs.Turn.{Turn, begin, with_held}
 use Rattle.std.proofs.Common.{◌≡◌, ◌++◌, ◌∷◌, ◌≤◌, ◌∙◌, ◌-◌, ◌+◌, Bool, List, None, Option, Some, arith, cond, drop, false, fold, inl, inr, length, map, refl, subst, suc, sym, true, zero, ℕ, []}
@@ -201,7 +202,7 @@ module _ (p n : ℕ) where
   NodeFalls input None = Unit {0}
   NodeFalls input (Some s) = LifeFalls input s.life
 
-  pub gone-shown : (w : World) (disk : Disk) (green : List ActionId) → AreShown p n w → AreShown p n (bring_down w p disk green)
+  pub gone-shown : (w : World) (disk : Disk) (green : List ActionId) → AreShown p n w → AreShown p n (bring_down w p (Down disk green))
   gone-shown w disk green is = record {
     rising = is.rising;
     low = is.low;

@@ -21,7 +21,8 @@ use Rattle.cg_disk_records.specs.Commit.{commits}
 use Rattle.cg_schedule.specs.declared.event.Event.{Event}
 use Rattle.cg_schedule.specs.declared.event.Event.TheVariants.{Start, Split, Merge, Request, Weak, Dirty, Order, Recover, RecoverStopped, Downgrade, Show, ShowOrder, Gather, End, Receive, Deliver, Rounds, Stop, Fail, Join, Leave, Transfer}
 use Rattle.cg_model.specs.World.{NodeState, Up, Down, Node, TransferState, World, node_of, replica_of}
-use Rattle.cg_model.specs.Step.{snapshot_for, is_struck}
+use Rattle.cg_model.specs.Step.{snapshot_for, stays_down}
+use Rattle.cg_model.specs.NodeLaws.{at_node_both}
 use Rattle.cg_model.specs.Turns.{Taken, stands, turns_of}
 use Rattle.cg_model.specs.Chronicle.{Attempt, Chronicle}
 use Rattle.cg_model.specs.Looks.{attempt_of, top_of, snapshot_of}
@@ -160,7 +161,7 @@ smalls-none w (Join p joiner weight) is = turns-none (λ q. Asks q (JoinKind joi
 smalls-none w (Leave p server) is = turns-none (λ q. Asks q (LeaveKind server) ∷ []) (λ q. (tt, tt)) w (Leave p server)
 smalls-none w (Stop p call fill) is = cond_both (call == 0) (Crashes p ∷ []) [] (Each StartsNone) (λ y. (tt, tt)) (λ n. tt)
 smalls-none w (Recover p) is = (tt, tt)
-smalls-none w (RecoverStopped p call fill) is = cond_both (is_struck w p (record { call = call; fault = StopWith fill })) [] (Recovers p ∷ []) (Each StartsNone) (λ y. tt) (λ n. (tt, tt))
+smalls-none w (RecoverStopped p call fill) is = at_node_both (λ (life : NodeState). []) (Recovers p ∷ []) (Each StartsNone) (λ life. tt) (tt, tt) w p (stays_down (record { call = call; fault = StopWith fill }))
 smalls-none w (Downgrade p) is = tt
 smalls-none w (Transfer p joiner pieces) is =
     Each-append StartsNone (copy_steps w p joiner) (join_steps w p joiner pieces)

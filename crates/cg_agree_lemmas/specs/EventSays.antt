@@ -22,7 +22,8 @@ use Rattle.cg_states.specs.ReplicaStep.{Input, Deliveries, replica_step}
 use Rattle.cg_disk_records.specs.Crash.{Disk, EventEnd, Runs, Crashes, end_event}
 use Rattle.cg_model.specs.World.{NodeState, Up, Down, Node, node_of}
 use Rattle.cg_model.specs.Show.{StepInProgress, EventEffects, news_of, answered_from, tell}
-use Rattle.cg_model.specs.Step.{after_event, hand_to, hand, hand_over}
+use Rattle.cg_model.specs.Step.{hand, hand_over}
+use Rattle.cg_model.specs.AtNode.{after_event, hand_to}
 use Rattle.cg_model.specs.FactsLists.{IsRising}
 use Rattle.cg_model.specs.Making.{made_of_action}
 use Rattle.cg_agree_lemmas.specs.ChronicleFacts.{node_of-set}

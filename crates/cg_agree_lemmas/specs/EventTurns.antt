@@ -10,7 +10,8 @@ use Rattle.cg_states.specs.ReplicaStep.{Input, replica_step}
 use Rattle.cg_disk_records.specs.Crash.{Disk, EventEnd, Runs, Crashes as EndsInCrash, end_event}
 use Rattle.cg_model.specs.World.{NodeState, Up, Down, Node, TransferState, World, running, node_of, replica_of}
 use Rattle.cg_model.specs.Show.{StepInProgress}
-use Rattle.cg_model.specs.Step.{hand, hand_to, after_event}
+use Rattle.cg_model.specs.Step.{hand}
+use Rattle.cg_model.specs.AtNode.{hand_to, after_event}
 use Rattle.cg_model.specs.Looks.{disk_held}
 use Rattle.cg_model.specs.Played.{IsSame, given_for}
 use Rattle.cg_agree_lemmas.specs.NodeFacts.{node-id, ids-hosted, running-set, disk-set}

@@ -16,7 +16,8 @@ use Rattle.cg_schedule.specs.declared.event.Event.{Event}
 use Rattle.cg_schedule.specs.declared.event.Event.TheVariants.{Start, Split, Merge, Request, Weak, Dirty, Order, Recover, RecoverStopped, Downgrade, Show, ShowOrder, Gather, End, Receive, Deliver, Rounds, Stop, Fail, Join, Leave, Transfer}
 use Rattle.cg_model.specs.World.{NodeState, Up, Down, Node, TransferState, World, node_of, replica_of, bring_up}
 use Rattle.cg_model.specs.Show.{StepInProgress}
-use Rattle.cg_model.specs.Step.{quietly, after_event, hand_to, hand, hand_over, name_also, begin_replica, arm_at, crash_at, recover_from, recover, joiner_replica, snapshot_for, without_snapshot, with_pieces, take_pieces, transfer, happens, downgrade}
+use Rattle.cg_model.specs.Step.{quietly, hand, hand_over, name_also, begin_replica, recover, joiner_replica, snapshot_for, without_snapshot, transfer, happens, downgrade}
+use Rattle.cg_model.specs.AtNode.{after_event, hand_to, arm_at, crash_at, recover_from, with_pieces, take_pieces}
 use Rattle.cg_client.specs.Joined.{piece_count}
 use Rattle.cg_agree_lemmas.specs.DiskSwaps.{Swaps, downgrade-swaps, recover_under-cases}
 

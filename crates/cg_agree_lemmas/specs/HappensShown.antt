@@ -18,7 +18,8 @@ use Rattle.cg_schedule.specs.declared.event.Event.{Event}
 use Rattle.cg_schedule.specs.declared.event.Event.TheVariants.{Start, Split, Merge, Request, Weak, Dirty, Order, Recover, RecoverStopped, Downgrade, Show, ShowOrder, Gather, End, Receive, Deliver, Rounds, Stop, Fail, Join, Leave, Transfer}
 use Rattle.cg_model.specs.World.{NodeState, Up, Down, Node, World, node_of, replica_of}
 use Rattle.cg_model.specs.Show.{StepInProgress, ended}
-use Rattle.cg_model.specs.Step.{quietly, after_event, hand_to, hand, hand_over, name_also, recover_from, recover, snapshot_for, take_pieces, transfer, shown_of, happens, world_step}
+use Rattle.cg_model.specs.Step.{quietly, hand, hand_over, name_also, recover, snapshot_for, transfer, shown_of, happens, world_step}
+use Rattle.cg_model.specs.AtNode.{after_event, hand_to, recover_from, take_pieces}
 use Rattle.cg_client.specs.Joined.{piece_count}
 use Rattle.cg_agree_lemmas.specs.DiskSwaps.{recover_under-cases}
 

@@ -11,7 +11,8 @@ use Rattle.cg_model.specs.World.{NodeState, Up, Down, Node, World, has_begun, no
 use Rattle.cg_model.specs.Admission.{first_refusal, unknown, has_left, takes_part}
 use Rattle.cg_model.specs.AdmissionCalls.{already_up}
 use Rattle.cg_model.specs.Show.{ended}
-use Rattle.cg_model.specs.Step.{happens, world_step, quietly, crash_at, recover_from}
+use Rattle.cg_model.specs.Step.{happens, world_step, quietly}
+use Rattle.cg_model.specs.AtNode.{crash_at, recover_from}
 use Rattle.cg_model.specs.Smalls.{may_make, smalls_in}
 use Rattle.cg_model.specs.Played.{IsSame}
 use Rattle.cg_agree_lemmas.specs.UnorderedKept.{first-none, refused-not}

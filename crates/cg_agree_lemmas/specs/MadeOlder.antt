@@ -1,19 +1,21 @@
 -- The steps of a disk that becomes one of the older format, and of a recovery that may be stopped, are made of small steps: of
 -- none where the replica stays down, since the disk's content is the same, and else of a recovery.
 use Rattle.std.proofs.Common.{◌≡◌, ℕ, Bool, true, false, List, [], ◌∷◌, Option, Some, None, map, refl, sym, ap, subst, ◌∙◌, inl, inr, option_map, option_and_then, if◌then◌else◌}
+use Rattle.std.specs.Option.{option_map_or}
 use Rattle.cg_disk_records.specs.Crash.{Strike, StopWith}
+use Rattle.cg_disk_records.specs.Recovery.{recovery_outcome, is_reached}
 use Rattle.cg_schedule.specs.declared.event.Event.TheVariants.{RecoverStopped, Downgrade}
-use Rattle.cg_model.specs.World.{NodeState, Down, Node, World, replica_of, running, set_life}
+use Rattle.cg_model.specs.World.{NodeState, Up, Down, Node, World, node_of, replica_of, running, set_life}
 use Rattle.cg_model.specs.Admission.{first_refusal}
-use Rattle.cg_model.specs.Show.{ended}
-use Rattle.cg_model.specs.Step.{happens, world_step, quietly, is_struck, stay_down, recover, downgrade}
+use Rattle.cg_model.specs.Show.{StepInProgress, ended}
+use Rattle.cg_model.specs.Step.{happens, world_step, quietly, stays_down, recover, downgrade}
 use Rattle.cg_model.specs.Looks.{on_disk, disk_held}
 use Rattle.cg_model.specs.Small.{Small, Recovers}
 use Rattle.cg_model.specs.Smalls.{smalls_in}
 use Rattle.cg_model.specs.FactsLists.{IsRising}
 use Rattle.cg_model.specs.Played.{IsSame}
 use Rattle.cg_agree_lemmas.specs.NodeFacts.{put-found, ids-found, running-set, disk-set}
-use Rattle.cg_agree_lemmas.specs.DiskSwaps.{IsSwapped, Swaps, stay_down-swaps, downgrade-swaps}
+use Rattle.cg_agree_lemmas.specs.DiskSwaps.{IsSwapped, Swaps, swapped, outcome-content, downgrade-swaps}
 use Rattle.cg_agree_lemmas.specs.SmallWorlds.{played_in, MayIn}
 use Rattle.cg_agree_lemmas.specs.MadeQuietly.{IsMadeIn, same-worlds, same-lined}
 use Rattle.cg_agree_lemmas.specs.MadeAlone.{recover-made}
@@ -41,14 +43,34 @@ pub downgrade-made : (w : World) (p : ℕ) → IsRising 0 (map (λ s. s.id) w.no
 unfolding smalls_in world_step happens ended
 downgrade-made w p rising = (tt, same-lined w (downgrade w p) (swapped-same w (downgrade w p) p (downgrade-swaps w p) rising) ((world_step w (Downgrade p)).world.lines))
 
--- a recovery in which a stop is armed, reached or not
+-- these small steps make this step
+abbrev MadeBy : World → List Small → StepInProgress → Type 0
+MadeBy w smalls g = MayIn w smalls × IsSame (played_in w smalls) (ended g).world
+
+-- a recovery in which a stop is armed, where the replica is left so, or recovers
+abbrev MadeUnder : World → ℕ → Option NodeState → Type 0
+MadeUnder w p left = MadeBy w (option_map_or (λ life. []) left (Recovers p ∷ [])) (option_map_or (λ life. quietly (set_life w p life)) left (recover w p))
+
 pub stopped-made : (w : World) (p call : ℕ) (fill : List ℕ) → IsRising 0 (map (λ s. s.id) w.nodes) → first_refusal w (RecoverStopped p call fill) ≡ None → IsMadeIn w (RecoverStopped p call fill)
 unfolding first_refusal smalls_in world_step happens ended
-stopped-made w p call fill rising admitted = at (is_struck w p strike) where
+stopped-made w p call fill rising admitted = at (node_of w p) refl where
   strike : Strike
   strike = record { call = call; fault = StopWith fill }
 
-  at : (b : Bool) → (let smalls : List Small = if b then [] else Recovers p ∷ [] in
-      MayIn w smalls × IsSame (played_in w smalls) (ended (if b then quietly (stay_down w p strike) else recover w p)).world)
-  at true = (tt, same-lined w (stay_down w p strike) (swapped-same w (stay_down w p strike) p (stay_down-swaps w p strike) rising) ((ended (quietly (stay_down w p strike))).world.lines))
-  at false = recover-made w p admitted
+  life : (s : Node) → node_of w p ≡ Some s → (l : NodeState) → s.life ≡ l → MadeUnder w p (stays_down strike l)
+  life s e (Up r disk) is = recover-made w p admitted
+  life s e (Down disk green) is = struck (is_reached disk strike) where
+    left : NodeState
+    left = Down (recovery_outcome disk strike) green
+
+    stays : Swaps w (set_life w p left) p
+    stays = swapped w p s e disk (recovery_outcome disk strike) green is (outcome-content disk strike)
+
+    struck : (b : Bool) → MadeUnder w p (if b then Some left else None)
+    struck true = (tt, same-lined w (set_life w p left) (swapped-same w (set_life w p left) p stays rising) ((ended (quietly (set_life w p left))).world.lines))
+    struck false = recover-made w p admitted
+
+  at : (o : Option Node) → node_of w p ≡ o → MadeBy w (option_map_or (λ s. option_map_or (λ life. []) (stays_down strike s.life) (Recovers p ∷ [])) o (Recovers p ∷ []))
+      (option_map_or (λ s. option_map_or (λ life. quietly (set_life w p life)) (stays_down strike s.life) (recover w p)) o (recover w p))
+  at None e = recover-made w p admitted
+  at (Some s) e = life s e s.life refl

@@ -17,7 +17,8 @@ use Rattle.cg_schedule.specs.declared.event.Event.TheVariants.{Start, Weak, Dirt
 use Rattle.cg_model.specs.World.{NodeState, Up, Down, Node, TransferState, World, no_world, node_of, replica_of, running}
 use Rattle.cg_model.specs.Admission.{first_refusal, unknown}
 use Rattle.cg_model.specs.Show.{ended}
-use Rattle.cg_model.specs.Step.{happens, world_step, arm, arm_at}
+use Rattle.cg_model.specs.Step.{happens, world_step, arm}
+use Rattle.cg_model.specs.AtNode.{arm_at}
 use Rattle.cg_model.specs.Looks.{on_disk, disk_held}
 use Rattle.cg_model.specs.Small.{Starts, Crashes}
 use Rattle.cg_model.specs.Smalls.{is_set_from, is_set, may_make, smalls_in}

@@ -22,7 +22,7 @@ use Rattle.cg_model.specs.FactsBooks.{LifeMade}
 use Rattle.cg_model.specs.World.{NodeState, Up, Down, Node, World, running, node_of}
 use Rattle.cg_model.specs.Looks.{on_disk}
 use Rattle.cg_model.specs.Show.{StepInProgress, beyond, unshown}
-use Rattle.cg_model.specs.Step.{after_event, recover_from}
+use Rattle.cg_model.specs.AtNode.{after_event, recover_from}
 use Rattle.cg_model.specs.Making.{made_of_action}
 use Rattle.cg_disk_records.specs.Holds.{run_on, cut_behind, Rising}
 use Rattle.cg_disk_records.specs.RunLaws.{cut_behind-append, run_on-append}

@@ -15,7 +15,8 @@ use Rattle.cg_model.specs.World.{Node, TransferState, World, has_begun, node_of,
 use Rattle.cg_model.specs.Admission.{first_refusal, takes_part, never_named, joiner_left, not_green}
 use Rattle.cg_model.specs.AdmissionCalls.{begun_already}
 use Rattle.cg_model.specs.Show.{StepInProgress, ended}
-use Rattle.cg_model.specs.Step.{happens, world_step, quietly, joiner_replica, snapshot_for, without_snapshot, with_pieces, take_pieces, transfer}
+use Rattle.cg_model.specs.Step.{happens, world_step, quietly, joiner_replica, snapshot_for, without_snapshot, transfer}
+use Rattle.cg_model.specs.AtNode.{with_pieces, take_pieces}
 use Rattle.cg_model.specs.Looks.{snapshot_of, snapshots_for, disk_held}
 use Rattle.cg_model.specs.Small.{Small, Copies, Joins}
 use Rattle.cg_model.specs.Smalls.{may_make, smalls_in, copy_steps, join_steps}

@@ -18,7 +18,8 @@ use Rattle.cg_disk_records.specs.Crash.{Disk, Strike, Runs, Crashes, whitened, e
 use Rattle.cg_model.specs.FactsBooks.{LifeMade, MadeFits, NodeMade}
 use Rattle.cg_model.specs.World.{NodeState, Up, Down, Node, World, node_of, bring_up, set_life}
 use Rattle.cg_model.specs.Show.{StepInProgress, unshown}
-use Rattle.cg_model.specs.Step.{after_event, hand_to, hand, hand_over, begin_replica, name_also, arm_at, crash_at, recover_from, joiner_replica}
+use Rattle.cg_model.specs.Step.{hand, hand_over, begin_replica, name_also, joiner_replica}
+use Rattle.cg_model.specs.AtNode.{after_event, hand_to, arm_at, crash_at, recover_from}
 use Rattle.cg_model.specs.FactsLists.{IsRising}
 use Rattle.cg_model.specs.FactsReplica.{GoesOn}
 use Rattle.cg_agree_lemmas.specs.ChronicleFacts.{node_of-set}

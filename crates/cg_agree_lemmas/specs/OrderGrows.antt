@@ -8,7 +8,8 @@ use Rattle.cg_agree_lemmas.specs.WorldTurns.{hand-behind}
 use Rattle.cg_model.specs.FactsLists.{IsRising}
 use Rattle.cg_model.specs.Fronts.{Front}
 use Rattle.cg_model.specs.Show.{StepInProgress, beyond}
-use Rattle.cg_model.specs.Step.{after_event, hand, hand_over, hand_to}
+use Rattle.cg_model.specs.Step.{hand, hand_over}
+use Rattle.cg_model.specs.AtNode.{after_event, hand_to}
 use Rattle.cg_model.specs.World.{Down, NodeState, Node, Up, World, node_of}
 use Rattle.cg_base.specs.declared.action_id.ActionId.{ActionId}
 use Rattle.cg_client.specs.Turn.{Turn}

@@ -22,7 +22,8 @@ use Rattle.cg_queue.specs.Queue.{green_count}
 use Rattle.cg_report.specs.declared.entry.Placed.{Placed}
 use Rattle.cg_model.specs.World.{NodeState, Up, Down, Node, TransferState, World, node_of, replica_of}
 use Rattle.cg_model.specs.Show.{StepInProgress, Moved, placed_from, beyond, ended}
-use Rattle.cg_model.specs.Step.{quietly, after_event, hand_to, hand, hand_over, hand_out, name_also, begin_replica, arm_at, arm, crash_at, stop, recover_from, recover, take_pieces, transfer, snapshot_for, with_pieces, happens, world_step, downgrade}
+use Rattle.cg_model.specs.Step.{quietly, hand, hand_over, hand_out, name_also, begin_replica, arm, stop, recover, transfer, snapshot_for, happens, world_step, downgrade}
+use Rattle.cg_model.specs.AtNode.{after_event, hand_to, arm_at, crash_at, recover_from, take_pieces, with_pieces}
 use Rattle.cg_model.specs.Run.{Step, IsRunFrom, world_after}
 use Rattle.cg_model.specs.Shown.{order_of, order_lines}
 use Rattle.cg_client.specs.Joined.{piece_count}

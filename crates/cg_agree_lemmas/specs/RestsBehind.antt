@@ -25,7 +25,8 @@ use Rattle.cg_model.specs.World.{NodeState, Up, Down, Node, World, running, node
 use Rattle.cg_model.specs.Show.{ended}
 use Rattle.cg_model.specs.Run.{MayStand}
 use Rattle.cg_model.specs.Levels.{is_record_of}
-use Rattle.cg_model.specs.Step.{quietly, hand_out, ask, name_also, begin_replica, arm_at, arm, crash_at, recover_from, recover, joiner_replica, snapshot_for, without_snapshot, with_pieces, take_pieces, transfer, happens, world_step, downgrade}
+use Rattle.cg_model.specs.Step.{quietly, hand_out, ask, name_also, begin_replica, arm, recover, joiner_replica, snapshot_for, without_snapshot, transfer, happens, world_step, downgrade}
+use Rattle.cg_model.specs.AtNode.{arm_at, crash_at, recover_from, with_pieces, take_pieces}
 use Rattle.cg_model.specs.FactsLists.{IsRising}
 use Rattle.cg_agree_lemmas.specs.ChronicleFacts.{node_of-set}
 use Rattle.cg_agree_lemmas.specs.HeldMarks.{IsOneself}

@@ -225,7 +225,7 @@ module _ (w v : World) (g : GroupState Msg) (is : IsShared w v) where
         let ups = are-up w v is p r e in
         let shared = shared-set w v is p (Down (at_rest ups.first) []) (Down (at_rest ups.second) []) refl ups.content in
         subst (λ (o : Option Node). IsSame (option_map_or (λ (s : Node). crash_in (grouped w g) p s.life) o (grouped w g)) (option_map_or (λ (s : Node). crash_in (grouped v g) p s.life) (node_of v p) (grouped v g))) (sym ups.in_first)
-        (subst (λ (o : Option Node). IsSame (bring_down (grouped w g) p (at_rest ups.first) []) (option_map_or (λ (s : Node). crash_in (grouped v g) p s.life) o (grouped v g))) (sym ups.in_second)
+        (subst (λ (o : Option Node). IsSame (bring_down (grouped w g) p (Down (at_rest ups.first) [])) (option_map_or (λ (s : Node). crash_in (grouped v g) p s.life) o (grouped v g))) (sym ups.in_second)
         record { group = refl; nodes = shared.nodes; running = shared.running; disk = shared.disk; given = given-gone w.snapshots v.snapshots is.given p })
 
   recover-same : (p : ℕ) → IsSame (small_in (grouped w g) (Recovers p)) (small_in (grouped v g) (Recovers p))

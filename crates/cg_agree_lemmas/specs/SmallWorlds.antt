@@ -43,7 +43,7 @@ commit_in w p (Up r disk) = let h = whiten r.held in set_life w p (Up (record r 
 commit_in w p (Down disk green) = w
 
 abbrev pub crash_in : World → ℕ → NodeState → World
-crash_in w p (Up r disk) = bring_down w p (at_rest disk) []
+crash_in w p (Up r disk) = bring_down w p (Down (at_rest disk) [])
 crash_in w p (Down disk green) = w
 
 abbrev pub recover_in : World → NodeState → World

@@ -22,7 +22,8 @@ use Rattle.cg_schedule.specs.declared.event.Event.{Event}
 use Rattle.cg_schedule.specs.declared.event.Event.TheVariants.{Start, Split, Merge, Request, Weak, Dirty, Order, Recover, RecoverStopped, Downgrade, Show, ShowOrder, Gather, End, Receive, Deliver, Rounds, Stop, Fail, Join, Leave, Transfer}
 use Rattle.cg_model.specs.World.{NodeState, Up, Down, Node, TransferState, World, node_of, replica_of, set_life, bring_up}
 use Rattle.cg_model.specs.Show.{StepInProgress}
-use Rattle.cg_model.specs.Step.{quietly, after_event, hand_to, hand, hand_over, name_also, begin_replica, arm_at, arm, crash_at, recover_from, recover, joiner_replica, snapshot_for, without_snapshot, with_pieces, take_pieces, transfer, happens, downgrade}
+use Rattle.cg_model.specs.Step.{quietly, hand, hand_over, name_also, begin_replica, arm, recover, joiner_replica, snapshot_for, without_snapshot, transfer, happens, downgrade}
+use Rattle.cg_model.specs.AtNode.{after_event, hand_to, arm_at, crash_at, recover_from, with_pieces, take_pieces}
 use Rattle.cg_model.specs.Looks.{on_disk, disk_held}
 use Rattle.cg_model.specs.PhaseLaws.{Group, where_is, sent-place, order-place, receive-place, gather-place, deliver-place, up-place, down-place, split-other, next_conf, merge-place}
 use Rattle.cg_model.specs.Touched.{touched}

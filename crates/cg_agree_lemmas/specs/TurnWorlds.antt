@@ -67,7 +67,7 @@ part-joins w g p disk t part is =
 -- the world behind the end of an event at a replica, in which the group was this one
 abbrev pub ended_in : World → GroupState Msg → ℕ → Turn → EventEnd → World
 ended_in w g p t (Runs r disk) = hosted w p r disk (send_all g p t.sent)
-ended_in w g p t (EndsInCrash disk green) = bring_down w p disk green
+ended_in w g p t (EndsInCrash disk green) = bring_down w p (Down disk green)
 
 -- the life that a replica has then
 abbrev pub life_at : EventEnd → NodeState
@@ -177,7 +177,7 @@ module _ (w : World) (g : GroupState Msg) (p : ℕ) (r : Replica) (disk : Disk) 
   lost-ends gone d green is =
       let steps = cond-false (is_kept disk.armed) (opening ++ Commits p ∷ Crashes p ∷ []) (Crashes p ∷ []) gone in
       let up = ap (λ (o : Option Node). is_some (option_and_then (λ s. running s.life) o)) node in
-      let leads : option_map_or (λ s. crash_in w p s.life) (node_of w p) w ≡ bring_down w p (at_rest disk) [] = ap (λ (o : Option Node). option_map_or (λ s. crash_in w p s.life) o w) node in
+      let leads : option_map_or (λ s. crash_in w p s.life) (node_of w p) w ≡ bring_down w p (Down (at_rest disk) []) = ap (λ (o : Option Node). option_map_or (λ s. crash_in w p s.life) o w) node in
       rw steps (
         (up, tt),
         record {

@@ -11,7 +11,8 @@ use Rattle.cg_states.specs.ReplicaStep.{Input, Deliveries, replica_step}
 use Rattle.cg_disk_records.specs.Crash.{Disk, end_event}
 use Rattle.cg_model.specs.World.{NodeState, Up, Down, Node, World, node_of}
 use Rattle.cg_model.specs.Show.{StepInProgress}
-use Rattle.cg_model.specs.Step.{hand_to, hand, hand_over}
+use Rattle.cg_model.specs.Step.{hand, hand_over}
+use Rattle.cg_model.specs.AtNode.{hand_to}
 use Rattle.cg_model.specs.FactsLists.{IsRising}
 use Rattle.cg_agree_lemmas.specs.ChronicleFacts.{node_of-set}
 use Rattle.cg_agree_lemmas.specs.NodeFacts.{node-id}

@@ -24,7 +24,8 @@ use Rattle.cg_schedule.specs.declared.event.Event.TheVariants.{Start, Split, Mer
 use Rattle.cg_model.specs.World.{NodeState, Up, Down, Node, TransferState, World, no_world, node_of, replica_of, has_begun, bring_up}
 use Rattle.cg_model.specs.Admission.{first_refusal, unknown, has_left, takes_part, never_named, cannot_rise}
 use Rattle.cg_model.specs.Show.{StepInProgress, ended}
-use Rattle.cg_model.specs.Step.{after_event, arm, arm_at, begin_replica, crash_at, hand, hand_over, hand_to, happens, joiner_replica, name_also, quietly, recover, recover_from, snapshot_for, take_pieces, transfer, with_pieces, without_snapshot, world_step, downgrade}
+use Rattle.cg_model.specs.Step.{arm, begin_replica, hand, hand_over, happens, joiner_replica, name_also, quietly, recover, snapshot_for, transfer, without_snapshot, world_step, downgrade}
+use Rattle.cg_model.specs.AtNode.{after_event, arm_at, crash_at, hand_to, recover_from, take_pieces, with_pieces}
 use Rattle.cg_model.specs.Run.{MayStand}
 use Rattle.cg_model.specs.Looks.{disk_held}
 use Rattle.cg_model.specs.Touched.{touched}

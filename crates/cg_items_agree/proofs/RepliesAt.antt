@@ -26,7 +26,8 @@ use Rattle.cg_schedule.specs.declared.event.Event.TheVariants.{Start, Split, Mer
 use Rattle.cg_model.specs.World.{NodeState, Up, Down, Node, World, has_begun, node_of, replica_of, running}
 use Rattle.cg_model.specs.Admission.{first_refusal}
 use Rattle.cg_model.specs.Show.{Answered, StepInProgress, answered_from, with_answered, ended}
-use Rattle.cg_model.specs.Step.{quietly, after_event, hand_to, hand, hand_over, recover, recover_from, snapshot_for, take_pieces, transfer, happens, world_step, name_also}
+use Rattle.cg_model.specs.Step.{quietly, hand, hand_over, recover, snapshot_for, transfer, happens, world_step, name_also}
+use Rattle.cg_model.specs.AtNode.{after_event, hand_to, recover_from, take_pieces}
 use Rattle.cg_model.specs.Run.{MayStand}
 use Rattle.cg_model.specs.Chronicle.{Chronicle}
 use Rattle.cg_model.specs.FactsLists.{IsRising}

@@ -20,7 +20,8 @@ use Rattle.cg_disk_records.specs.Crash.{Disk, EventEnd, Runs, Crashes, end_event
 use Rattle.cg_schedule.specs.declared.event.Event.TheVariants.{Request}
 use Rattle.cg_model.specs.World.{NodeState, Up, Down, Node, World, no_world, node_of, replica_of, running, set_life}
 use Rattle.cg_model.specs.Show.{StepInProgress, Moved, ended}
-use Rattle.cg_model.specs.Step.{quietly, after_event, hand_to, hand, ask, happens, world_step}
+use Rattle.cg_model.specs.Step.{quietly, hand, ask, happens, world_step}
+use Rattle.cg_model.specs.AtNode.{after_event, hand_to}
 use Rattle.cg_model.specs.Run.{Step, IsRunFrom}
 use Rattle.cg_model.specs.Shown.{made_names}
 use Rattle.cg_model.specs.Agreement.{through}

@@ -17,7 +17,8 @@ use Rattle.cg_states.specs.ReplicaStep.{Input, Deliveries, replica_step}
 use Rattle.cg_disk_records.specs.Crash.{Disk, new_disk, EventEnd, Runs, Crashes, end_event, at_rest, recovered, disk_recovered}
 use Rattle.cg_model.specs.World.{NodeState, Up, Down, Node, World, running, node_of, with_node}
 use Rattle.cg_model.specs.Show.{StepInProgress}
-use Rattle.cg_model.specs.Step.{quietly, after_event, hand_to, hand, hand_over, hand_out, begin_replica, crash_at, recover_from}
+use Rattle.cg_model.specs.Step.{quietly, hand, hand_over, hand_out, begin_replica}
+use Rattle.cg_model.specs.AtNode.{after_event, hand_to, crash_at, recover_from}
 use Rattle.cg_laws.proofs.Calm.{CalmMessage, CalmTurn}
 use Rattle.cg_laws.proofs.CalmRows.{CalmInput, step-calm}
 use Rattle.cg_laws.proofs.CalmEnds.{CalmLife, RunsOn, ended-calm, crashed-calm, recovered-calm, fresh-calm}

@@ -1,6 +1,7 @@
 pub mod World
 pub mod Admission
 pub mod AdmissionCalls
+pub mod AtNode
 pub mod Show
 pub mod Step
 pub mod Run

@@ -19,10 +19,11 @@ use Rattle.cg_states.specs.ReplicaStep.{Input, Deliveries, Asks as AsksOf, repli
 use Rattle.cg_disk_records.specs.Crash.{FailOnce, StopWith, Strike, EventEnd, Runs, Crashes, end_event, new_disk}
 use Rattle.cg_schedule.specs.declared.event.Event.{Event}
 use Rattle.cg_schedule.specs.declared.event.Event.TheVariants.{Start, Split, Merge, Request, Weak, Dirty, Order, Recover, RecoverStopped, Downgrade, Show, ShowOrder, Gather, End, Receive, Deliver, Rounds, Stop, Fail, Join, Leave, Transfer}
-use Rattle.cg_model.specs.World.{NodeState, Up, Down, Node, TransferState, World, running, node_of, has_begun, replica_of, up_replicas, with_node, bring_up}
+use Rattle.cg_model.specs.World.{NodeState, Up, Down, Node, TransferState, World, running, node_of, at_node, has_begun, replica_of, up_replicas, with_node, set_life, bring_up, bring_down}
 use Rattle.cg_model.specs.Admission.{first_refusal}
-use Rattle.cg_model.specs.Show.{StepInProgress, ended}
-use Rattle.cg_model.specs.Step.{quietly, after_event, hand_to, hand, hand_over, name_also, begin_replica, arm_at, arm, crash_at, recover_from, recover, is_struck, stay_down_at, stay_down, recover_under, downgrade_at, downgrade, joiner_replica, snapshot_for, without_snapshot, with_pieces, take_pieces, transfer, happens, world_step}
+use Rattle.cg_model.specs.Show.{EventEffects, StepInProgress, ended}
+use Rattle.cg_model.specs.Step.{quietly, taken, comes_back, hand, hand_over, name_also, begin_replica, armed, crashed, risen, recover, stays_down, recover_under, downgraded, joiner_replica, snapshot_for, without_snapshot, takes, transfer, happens, world_step}
+use Rattle.cg_model.specs.AtNode.{comes_up, take_pieces}
 use Rattle.cg_model.specs.Run.{MayStand}
 use Rattle.cg_client.specs.Joined.{piece_count}
 use Rattle.cg_group.specs.LookupLaws.{at-cond}
@@ -46,23 +47,31 @@ found-node (s ∷ nodes) new q =
     (λ other here. ne_eqb new.id q (λ e. eqb-false s.id new.id other (eqb-true s.id q here ∙ sym e)))
     (found-node nodes new q)
 
+-- ---- what comes of a node, or doesn't
+
+module _ {S T : Type 0} (put : S → T) (stays : T) (P : T → Type 0) (each : (x : S) → P (put x)) (is : P stays) where
+  life_both : (o : Option S) → P (option_map_or put o stays)
+  life_both None = is
+  life_both (Some x) = each x
+
+  found_both : (made : NodeState → Option S) (o : Option Node) →
+      P (option_map_or (λ s. option_map_or put (made s.life) stays) o stays)
+  found_both made None = is
+  found_both made (Some s) = life_both (made s.life)
+
+  pub at_node_both : (w : World) (p : ℕ) (made : NodeState → Option S) → P (at_node w p made put stays)
+  at_node_both w p made = found_both made (node_of w p)
+
 -- ---- what a new or changed node keeps
 
 module _ (P : List Node → Type 0) (kept : (nodes : List Node) (new : Node) → P nodes → P (with_node nodes new)) where
   hand_keeps : (go : StepInProgress) (p : ℕ) (input : Input) → P go.world.nodes → P (hand go p input).world.nodes
   unfolding hand
-  hand_keeps go p input is = at (node_of go.world p) where
-    ends : (t : Turn) (e : EventEnd) → P (after_event go p t e).world.nodes
-    ends t (Runs r disk) = kept go.world.nodes _ is
-    ends t (Crashes disk green) = kept go.world.nodes _ is
-
-    life : (l : NodeState) → P (hand_to go p input l).world.nodes
-    life (Up r disk) = let t = replica_step r input in ends t (end_event disk r.held t)
-    life (Down disk green) = is
-
-    at : (o : Option Node) → P (option_map_or (λ s. hand_to go p input s.life) o go).world.nodes
-    at None = is
-    at (Some s) = life s.life
+  hand_keeps go p input is =
+      at_node_both (comes_back go p) go (λ g. P g.world.nodes) back is go.world p (taken input) where
+        back : (x : NodeState × Option (EventEffects × List Msg)) → P (comes_back go p x).world.nodes
+        back (life, Some (news, sent)) = kept go.world.nodes _ is
+        back (life, None) = kept go.world.nodes _ is
 
   all_keep : (go : StepInProgress) (list : List (Handed Msg)) → P go.world.nodes → P (fold hand_over go list).world.nodes
   all_keep go [] is = is
@@ -72,56 +81,31 @@ module _ (P : List Node → Type 0) (kept : (nodes : List Node) (new : Node) →
   begun_keep set [] w is = is
   begun_keep set (p ∷ list) w is = begun_keep set list (begin_replica set w p) (kept w.nodes _ is)
 
-  by_life : (w : World) (change : NodeState → World) → ((l : NodeState) → P (change l).nodes) → P w.nodes → (o : Option Node) →
-      P (option_map_or (λ s. change s.life) o w).nodes
-  by_life w change each is None = is
-  by_life w change each is (Some s) = each s.life
+  put_keeps : (w : World) (p : ℕ) (made : NodeState → Option NodeState) → P w.nodes →
+      P (at_node w p made (set_life w p) w).nodes
+  put_keeps w p made is =
+      at_node_both (set_life w p) w (λ (w : World). P w.nodes) (λ life. kept w.nodes _ is) is w p made
 
-  armed_keeps : (w : World) (p : ℕ) (strike : Strike) → P w.nodes → P (arm w p strike).nodes
-  armed_keeps w p strike is = by_life w (arm_at w p strike) each is (node_of w p) where
-    each : (l : NodeState) → P (arm_at w p strike l).nodes
-    each (Up r disk) = kept w.nodes _ is
-    each (Down disk green) = is
-
-  stopped_keeps : (w : World) (p : ℕ) → P w.nodes → P (option_map_or (λ s. crash_at w p s.life) (node_of w p) w).nodes
-  stopped_keeps w p is = by_life w (crash_at w p) each is (node_of w p) where
-    each : (l : NodeState) → P (crash_at w p l).nodes
-    each (Up r disk) = kept w.nodes _ is
-    each (Down disk green) = is
+  stopped_keeps : (w : World) (p : ℕ) → P w.nodes → P (at_node w p crashed (bring_down w p) w).nodes
+  stopped_keeps w p is =
+      at_node_both (bring_down w p) w (λ (w : World). P w.nodes) (λ life. kept w.nodes _ is) is w p crashed
 
   recovered_keeps : (w : World) (p : ℕ) → P w.nodes → P (recover w p).world.nodes
-  recovered_keeps w p is = at (node_of w p) where
-    life : (l : NodeState) → P (recover_from w l).world.nodes
-    life (Up r disk) = is
-    life (Down disk green) = kept w.nodes _ is
-
-    at : (o : Option Node) → P (option_map_or (λ s. recover_from w s.life) o (quietly w)).world.nodes
-    at None = is
-    at (Some s) = life s.life
-
-  stayed_keeps : (w : World) (p : ℕ) (strike : Strike) → P w.nodes → P (stay_down w p strike).nodes
-  stayed_keeps w p strike is = by_life w (stay_down_at w p strike) each is (node_of w p) where
-    each : (l : NodeState) → P (stay_down_at w p strike l).nodes
-    each (Up r disk) = is
-    each (Down disk green) = kept w.nodes _ is
-
-  downgraded_keeps : (w : World) (p : ℕ) → P w.nodes → P (downgrade w p).nodes
-  downgraded_keeps w p is = by_life w (downgrade_at w p) each is (node_of w p) where
-    each : (l : NodeState) → P (downgrade_at w p l).nodes
-    each (Up r disk) = is
-    each (Down disk green) = kept w.nodes _ is
+  recovered_keeps w p is =
+      at_node_both (comes_up w) (quietly w) (λ (g : StepInProgress). P g.world.nodes) (λ up. kept w.nodes _ is) is
+      w p (risen w.made)
 
   risen_keeps : (w : World) (p : ℕ) (strike : Strike) → P w.nodes → P (recover_under w p strike).world.nodes
   risen_keeps w p strike is =
-      cond_both (is_struck w p strike) (quietly (stay_down w p strike)) (recover w p)
-      (λ (g : StepInProgress). P g.world.nodes) (λ y. stayed_keeps w p strike is) (λ n. recovered_keeps w p is)
+      at_node_both (λ life. quietly (set_life w p life)) (recover w p) (λ (g : StepInProgress). P g.world.nodes)
+      (λ life. kept w.nodes _ is) (recovered_keeps w p is) w p (stays_down strike)
 
-  pieces_keep : (w : World) (s : TransferState) (taken : ℕ) → P w.nodes → P (with_pieces w s taken).nodes
-  pieces_keep w s taken is =
-      let others = without_snapshot w s.joiner in
+  taken_keep : (w : World) (s : TransferState) (pieces : ℕ) → P w.nodes → P (takes w s pieces).world.nodes
+  taken_keep w s pieces is =
       let r = joiner_replica s.joiner s.content in
-      cond_both (taken == piece_count s.content) (bring_up others r (new_disk r.held))
-      (record others { snapshots = others.snapshots ++ record s { taken = taken } ∷ [] }) (λ w. P w.nodes)
+      let taken = min (piece_count s.content) (s.taken + pieces) in
+      cond_both (taken == piece_count s.content) (bring_up w r (new_disk r.held))
+      (record w { snapshots = w.snapshots ++ record s { taken = taken } ∷ [] }) (λ w. P w.nodes)
       (λ y. kept w.nodes _ is) (λ n. is)
 
   transferred_keeps : (w : World) (p joiner pieces : ℕ) → P w.nodes → P (transfer w p joiner pieces).world.nodes
@@ -129,8 +113,7 @@ module _ (P : List Node → Type 0) (kept : (nodes : List Node) (new : Node) →
     at : (o : Option Replica) →
         P (option_map_or (λ r. take_pieces w (snapshot_for w p joiner r) pieces) o (quietly w)).world.nodes
     at None = is
-    at (Some r) = (let s = snapshot_for w p joiner r in
-        pieces_keep w s (min (piece_count s.content) (s.taken + pieces)) is)
+    at (Some r) = (let s = snapshot_for w p joiner r in taken_keep (without_snapshot w s.joiner) s pieces is)
 
   step_keeps : (w : World) (e : Event) → P w.nodes → P (world_step w e).world.nodes
   unfolding world_step happens ended
@@ -142,12 +125,13 @@ module _ (P : List Node → Type 0) (kept : (nodes : List Node) (new : Node) →
   step_keeps w (Request p cmds query) is = hand_keeps (quietly w) p (AsksOf (Update cmds query)) is
   step_keeps w (Recover p) is = recovered_keeps w p is
   step_keeps w (RecoverStopped p call fill) is = risen_keeps w p (record { call = call; fault = StopWith fill }) is
-  step_keeps w (Downgrade p) is = downgraded_keeps w p is
+  step_keeps w (Downgrade p) is = put_keeps w p downgraded is
   step_keeps w (Deliver p count) is =
       all_keep (quietly (record w { group = (deliver w.group p count).group })) (deliver w.group p count).handed is
   step_keeps w (Stop p zero fill) is = stopped_keeps w p is
-  step_keeps w (Stop p (suc call) fill) is = armed_keeps w p (record { call = suc call; fault = StopWith fill }) is
-  step_keeps w (Fail p call) is = armed_keeps w p (record { call = call; fault = FailOnce }) is
+  step_keeps w (Stop p (suc call) fill) is =
+      put_keeps w p (armed (record { call = suc call; fault = StopWith fill })) is
+  step_keeps w (Fail p call) is = put_keeps w p (armed (record { call = call; fault = FailOnce })) is
   step_keeps w (Join p joiner weight) is =
       hand_keeps (quietly (name_also w joiner)) p (AsksOf (JoinKind joiner weight)) is
   step_keeps w (Leave p server) is = hand_keeps (quietly w) p (AsksOf (LeaveKind server)) is

@@ -132,18 +132,23 @@ pub record Moved : Type 0 where
   pub entry : Entry
   pub world : World
 
--- a step ends: the lines that differ from the last printed ones are printed, ascending by replica
+-- the lines that differ from the last printed ones, ascending by replica
+abbrev pub new_lines : World → List Line
+new_lines w = filter (is_news w.lines) (map (line_of w.group) w.nodes)
+
+-- a step ends, and these lines are printed
+abbrev pub ended_with : StepInProgress → List Line → Moved
+ended_with g lines = record {
+  entry = record {
+    made = g.made;
+    orders = g.orders;
+    lines = lines;
+    replies = map (λ r. r.reply) g.replies;
+    shown = g.shown;
+  };
+  world = record g.world { lines = fold with_printed g.world.lines lines };
+}
+
+-- a step ends, and its new lines are printed
 unfoldable pub ended : StepInProgress → Moved
-ended g =
-    let w = g.world in
-    let lines = filter (is_news w.lines) (map (line_of w.group) w.nodes) in
-    record {
-      entry = record {
-        made = g.made;
-        orders = g.orders;
-        lines = lines;
-        replies = map (λ r. r.reply) g.replies;
-        shown = g.shown;
-      };
-      world = record w { lines = fold with_printed w.lines lines };
-    }
+ended g = ended_with g (new_lines g.world)

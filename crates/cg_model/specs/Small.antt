@@ -236,7 +236,7 @@ crash_as c p (Down disk green) = c
 crash_as c p (Up r disk) =
     let gone = note_leaving c p (length (stood_of c p)) in
     record gone {
-      world = bring_down c.world p (at_rest disk) [];
+      world = bring_down c.world p (Down (at_rest disk) []);
       pasts = changed_past struck p c.pasts;
       copies = filter (λ x. not (x.giver == p)) c.copies;
     }

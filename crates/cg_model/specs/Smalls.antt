@@ -18,8 +18,8 @@ use Rattle.cg_disk_records.specs.Commit.{commits}
 use Rattle.cg_disk_records.specs.Crash.{StopWith, EventEnd, Runs, Crashes as EndsInCrash}
 use Rattle.cg_schedule.specs.declared.event.Event.{Event}
 use Rattle.cg_schedule.specs.declared.event.Event.TheVariants.{Start, Split, Merge, Request, Order, Recover, RecoverStopped, Gather, Receive, Deliver, Stop, Join, Leave, Transfer}
-use Rattle.cg_model.specs.World.{World, has_begun, replica_of, is_left}
-use Rattle.cg_model.specs.Step.{is_struck, snapshot_for}
+use Rattle.cg_model.specs.World.{World, at_node, has_begun, replica_of, is_left}
+use Rattle.cg_model.specs.Step.{stays_down, snapshot_for}
 use Rattle.cg_model.specs.Turns.{Taken, turns_of, stands}
 use Rattle.cg_model.specs.Chronicle.{Chronicle}
 use Rattle.cg_model.specs.Looks.{told_in, ordered_in, is_member, snapshot_of}
@@ -175,6 +175,6 @@ smalls_in w (Leave p server) = turns_as (turn_steps w (Leave p server)) w (Leave
 smalls_in w (Stop p call fill) = if call == 0 then Crashes p ∷ [] else []
 smalls_in w (Recover p) = Recovers p ∷ []
 smalls_in w (RecoverStopped p call fill) =
-    if is_struck w p (record { call = call; fault = StopWith fill }) then [] else Recovers p ∷ []
+    at_node w p (stays_down (record { call = call; fault = StopWith fill })) (λ life. []) (Recovers p ∷ [])
 smalls_in w (Transfer p joiner pieces) = copy_steps w p joiner ++ join_steps w p joiner pieces
 smalls_in w other = []

@@ -1,6 +1,7 @@
 -- The step of a world: what each event does.
-use Rattle.std.specs.Prelude.{ℕ, zero, suc, ◌+◌, ◌==◌, min, Bool, false, not, ◌&&◌, List, [], ◌∷◌, ◌++◌, Some, find, filter, fold, if◌then◌else◌}
+use Rattle.std.specs.Prelude.{ℕ, zero, suc, ◌+◌, ◌==◌, min, false, not, ◌&&◌, List, [], ◌∷◌, ◌++◌, Option, Some, None, find, filter, fold, if◌then◌else◌}
 use Rattle.std.specs.Option.{option_map_or}
+use Rattle.cg_base.specs.declared.action_id.ActionId.{ActionId}
 use Rattle.cg_base.specs.declared.weighted.Weighted.{Weighted}
 use Rattle.cg_base.specs.Sets.{with_member}
 use Rattle.cg_base.specs.Weights.{ids}
@@ -15,15 +16,15 @@ use Rattle.cg_client.specs.Joined.{joiner_content as joined_held, piece_count}
 use Rattle.cg_client.specs.Turn.{Turn}
 use Rattle.cg_client.specs.Queries.{weak_answer, dirty_answer}
 use Rattle.cg_states.specs.ReplicaStep.{Input, Deliveries, Asks, replica_step}
-use Rattle.cg_disk_records.specs.Crash.{FailOnce, StopWith, Strike, EventEnd, Runs, Crashes, new_disk, end_event, at_rest, recovered, disk_recovered}
+use Rattle.cg_disk_records.specs.Crash.{Disk, FailOnce, StopWith, Strike, EventEnd, Runs, Crashes, new_disk, end_event, at_rest, recovered, disk_recovered}
 use Rattle.cg_disk_records.specs.Recovery.{recovery_outcome, is_reached}
 use Rattle.cg_older.specs.OldDisk.{old_disk}
 use Rattle.cg_report.specs.declared.entry.Shown.{Shown}
 use Rattle.cg_report.specs.declared.entry.Shown.TheVariants.{Weak as ShownWeak, Dirty as ShownDirty, Pieces, Greens, Database, All}
 use Rattle.cg_schedule.specs.declared.event.Event.{Event}
 use Rattle.cg_schedule.specs.declared.event.Event.TheVariants.{Start, Split, Merge, Request, Weak, Dirty, Order, Recover, RecoverStopped, Downgrade, Show, ShowOrder, Gather, Receive, Deliver, Stop, Fail, Join, Leave, Transfer}
-use Rattle.cg_model.specs.World.{NodeState, Up, Down, TransferState, World, node_of, replica_of, set_life, bring_up, bring_down}
-use Rattle.cg_model.specs.Show.{StepInProgress, Moved, news_of, news_of_recovery, tell, ended}
+use Rattle.cg_model.specs.World.{NodeState, Up, Down, TransferState, World, at_node, replica_of, set_life, bring_up, bring_down}
+use Rattle.cg_model.specs.Show.{EventEffects, StepInProgress, Moved, news_of, news_of_recovery, tell, ended}
 
 -- nothing has come of an event but this world
 abbrev pub quietly : World → StepInProgress
@@ -35,21 +36,25 @@ showing w shown = record { world = w; made = []; orders = []; replies = []; show
 
 -- ---- replicas that take part
 
--- an event has ended at a replica: it says what it has to say, and what came of it is shown; or the replica is down
-abbrev pub after_event : StepInProgress → ℕ → Turn → EventEnd → StepInProgress
-after_event g p t (Runs r disk) =
-    let w = set_life g.world p (Up r disk) in
-    tell (record g { world = record w { group = send_all w.group p t.sent } }) (news_of t)
-after_event g p t (Crashes disk green) = record g { world = bring_down g.world p disk green }
+-- a replica behind an event; where it goes on, with what is to be shown of it and with its messages
+abbrev pub behind : Turn → EventEnd → NodeState × Option (EventEffects × List Msg)
+behind t (Runs r disk) = (Up r disk, Some (news_of t, t.sent))
+behind t (Crashes disk green) = (Down disk green, None)
 
 -- a replica takes its turn, where it is up
-abbrev pub hand_to : StepInProgress → ℕ → Input → NodeState → StepInProgress
-hand_to g p input (Up r disk) = let t = replica_step r input in after_event g p t (end_event disk r.held t)
-hand_to g p input (Down disk green) = g
+abbrev pub taken : Input → NodeState → Option (NodeState × Option (EventEffects × List Msg))
+taken input (Up r disk) = let t = replica_step r input in Some (behind t (end_event disk r.held t))
+taken input (Down disk green) = None
+
+-- it says what it has to say, and what came of it is shown; or it goes down
+abbrev pub comes_back : StepInProgress → ℕ → NodeState × Option (EventEffects × List Msg) → StepInProgress
+comes_back g p (life, Some (news, sent)) =
+    let w = set_life g.world p life in tell (record g { world = record w { group = send_all w.group p sent } }) news
+comes_back g p (life, None) = record g { world = bring_down g.world p life }
 
 -- a replica that has begun takes its turn, where it is up
 unfoldable pub hand : StepInProgress → ℕ → Input → StepInProgress
-hand g p input = option_map_or (λ s. hand_to g p input s.life) (node_of g.world p) g
+hand g p input = at_node g.world p (taken input) (comes_back g p) g
 
 -- a replica takes what the group hands to it
 abbrev pub hand_over : StepInProgress → Handed Msg → StepInProgress
@@ -73,60 +78,50 @@ name_also w p = record w { named = with_member w.named p }
 abbrev pub begin_replica : List Weighted → World → ℕ → World
 begin_replica set w p = let r = fresh p set in bring_up (name_also w p) r (new_disk r.held)
 
--- a fault is armed at the replica's disk
-abbrev pub arm_at : World → ℕ → Strike → NodeState → World
-arm_at w p strike (Up r disk) = set_life w p (Up r (record disk { armed = Some strike }))
-arm_at w p strike (Down disk green) = w
+-- a fault is armed at the replica's disk, where it is up
+abbrev pub armed : Strike → NodeState → Option NodeState
+armed strike (Up r disk) = Some (Up r (record disk { armed = Some strike }))
+armed strike (Down disk green) = None
 
 abbrev pub arm : World → ℕ → Strike → World
-arm w p strike = option_map_or (λ s. arm_at w p strike s.life) (node_of w p) w
+arm w p strike = at_node w p (armed strike) (set_life w p) w
 
--- the replica crashes now; what it hadn't written is lost
-abbrev pub crash_at : World → ℕ → NodeState → World
-crash_at w p (Up r disk) = bring_down w p (at_rest disk) []
-crash_at w p (Down disk green) = w
+-- the replica crashes, where it is up; what it hadn't written is lost
+abbrev pub crashed : NodeState → Option NodeState
+crashed (Up r disk) = Some (Down (at_rest disk) [])
+crashed (Down disk green) = None
 
 -- a crash now, or inside the given device call from now on
 abbrev pub stop : World → ℕ → ℕ → List ℕ → World
-stop w p zero fill = option_map_or (λ s. crash_at w p s.life) (node_of w p) w
+stop w p zero fill = at_node w p crashed (bring_down w p) w
 stop w p (suc n) fill = arm w p (record { call = suc n; fault = StopWith fill })
 
--- a replica comes up with what stands on its disk, and what became green in the event that struck it is shown
-abbrev pub recover_from : World → NodeState → StepInProgress
-recover_from w (Up r disk) = quietly w
-recover_from w (Down disk green) =
-    let r = recovered disk in tell (quietly (bring_up w r (disk_recovered disk))) (news_of_recovery w.made r.held green)
+-- it comes up with what stands on its disk, where it is down; and what became green in the event that struck it is shown
+abbrev pub risen : List ActionId → NodeState → Option (Replica × Disk × EventEffects)
+risen made (Up r disk) = None
+risen made (Down disk green) = let r = recovered disk in
+    Some (r, disk_recovered disk, news_of_recovery made r.held green)
 
 abbrev pub recover : World → ℕ → StepInProgress
-recover w p = option_map_or (λ s. recover_from w s.life) (node_of w p) (quietly w)
+recover w p = at_node w p (risen w.made) (λ up. tell (quietly (bring_up w up.0 up.1)) up.2) (quietly w)
 
--- the strike reaches a device call of the replica's recovery
-abbrev pub is_struck_at : Strike → NodeState → Bool
-is_struck_at strike (Up r disk) = false
-is_struck_at strike (Down disk green) = is_reached disk strike
-
-abbrev pub is_struck : World → ℕ → Strike → Bool
-is_struck w p strike = option_map_or (λ s. is_struck_at strike s.life) (node_of w p) false
-
--- the replica stays down, and its disk stands for what it stood for
-abbrev pub stay_down_at : World → ℕ → Strike → NodeState → World
-stay_down_at w p strike (Up r disk) = w
-stay_down_at w p strike (Down disk green) = set_life w p (Down (recovery_outcome disk strike) green)
-
-abbrev pub stay_down : World → ℕ → Strike → World
-stay_down w p strike = option_map_or (λ s. stay_down_at w p strike s.life) (node_of w p) w
+-- where the strike reaches a device call of its recovery a replica stays down, and its disk stands for what it stood for
+abbrev pub stays_down : Strike → NodeState → Option NodeState
+stays_down strike (Up r disk) = None
+stays_down strike (Down disk green) =
+    if is_reached disk strike then Some (Down (recovery_outcome disk strike) green) else None
 
 -- a recovery in which a stop is armed at the given device call; where it has fewer calls nothing is armed behind it
 abbrev pub recover_under : World → ℕ → Strike → StepInProgress
-recover_under w p strike = if is_struck w p strike then quietly (stay_down w p strike) else recover w p
+recover_under w p strike = at_node w p (stays_down strike) (λ life. quietly (set_life w p life)) (recover w p)
 
 -- a disk of the older format in place of the replica's, which stands for the same
-abbrev pub downgrade_at : World → ℕ → NodeState → World
-downgrade_at w p (Up r disk) = w
-downgrade_at w p (Down disk green) = set_life w p (Down (old_disk disk.content) green)
+abbrev pub downgraded : NodeState → Option NodeState
+downgraded (Up r disk) = None
+downgraded (Down disk green) = Some (Down (old_disk disk.content) green)
 
 abbrev pub downgrade : World → ℕ → World
-downgrade w p = option_map_or (λ s. downgrade_at w p s.life) (node_of w p) w
+downgrade w p = at_node w p downgraded (set_life w p) w
 
 -- ---- snapshots
 
@@ -144,24 +139,23 @@ snapshot_for w p joiner r =
 abbrev pub without_snapshot : World → ℕ → World
 without_snapshot w joiner = record w { snapshots = filter (λ s. not (s.joiner == joiner)) w.snapshots }
 
--- so many pieces were taken; with the last of them the joiner is up
-abbrev pub with_pieces : World → TransferState → ℕ → World
-with_pieces w s taken =
-    let others = without_snapshot w s.joiner in
+-- with the last piece its joiner is up with a new disk; else the snapshot goes on
+abbrev pub handed : World → TransferState → World
+handed w s =
     let r = joiner_replica s.joiner s.content in
-    if taken == piece_count s.content then bring_up others r (new_disk r.held)
-    else record others { snapshots = others.snapshots ++ record s { taken = taken } ∷ [] }
+    if s.taken == piece_count s.content then bring_up w r (new_disk r.held)
+    else record w { snapshots = w.snapshots ++ s ∷ [] }
 
 -- the next pieces of a snapshot are taken, or all that are left where these are fewer
-abbrev pub take_pieces : World → TransferState → ℕ → StepInProgress
-take_pieces w s pieces =
-    let taken = min (piece_count s.content) (s.taken + pieces) in
-    showing (with_pieces w s taken) (Pieces s.joiner taken (piece_count s.content) ∷ [])
+abbrev pub takes : World → TransferState → ℕ → StepInProgress
+takes w s pieces =
+    let t = record s { taken = min (piece_count s.content) (s.taken + pieces) } in
+    showing (handed w t) (Pieces t.joiner t.taken (piece_count t.content) ∷ [])
 
 -- pieces go from a representative to a joiner
 abbrev pub transfer : World → ℕ → ℕ → ℕ → StepInProgress
-transfer w p joiner pieces =
-    option_map_or (λ r. take_pieces w (snapshot_for w p joiner r) pieces) (replica_of w p) (quietly w)
+transfer w p joiner pieces = option_map_or
+    (λ r. let s = snapshot_for w p joiner r in takes (without_snapshot w s.joiner) s pieces) (replica_of w p) (quietly w)
 
 -- ---- events
 

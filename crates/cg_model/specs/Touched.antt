@@ -7,7 +7,7 @@ use Rattle.cg_schedule.specs.declared.event.Event.{Event}
 use Rattle.cg_schedule.specs.declared.event.Event.TheVariants.{Start, Split, Merge, Request, Weak, Dirty, Order, Recover, RecoverStopped, Downgrade, Show, ShowOrder, Gather, End, Receive, Deliver, Rounds, Stop, Fail, Join, Leave, Transfer}
 use Rattle.cg_model.specs.World.{World}
 use Rattle.cg_model.specs.Admission.{first_refusal}
-use Rattle.cg_model.specs.Show.{line_of, is_news}
+use Rattle.cg_model.specs.Show.{line_of, is_news, new_lines}
 use Rattle.cg_model.specs.Step.{happens}
 use Rattle.cg_model.specs.Run.{MayStand}
 use Rattle.cg_model.specs.Chronicle.{Chronicle}
@@ -38,11 +38,7 @@ touched (Join p joiner weight) = p ∷ []
 touched (Leave p server) = p ∷ []
 touched (Transfer p joiner pieces) = joiner ∷ []
 
--- the lines that differ from the last printed ones, ascending by replica
-abbrev pub new_lines : World → List Line
-new_lines w = filter (is_news w.lines) (map (line_of w.group) w.nodes)
-
--- those of these replicas
+-- the new lines of these replicas
 abbrev pub new_lines_of : List ℕ → World → List Line
 new_lines_of set w = filter (is_news w.lines) (map (line_of w.group) (filter (λ s. has set s.id) w.nodes))
 
