@@ -10,7 +10,8 @@ use Rattle.cg_store.specs.Defined.{fault_of}
 use Rattle.cg_engine.specs.Engines.{Up as UpEngine, IsSame}
 use Rattle.cg_engine.specs.Defined.{strike_from}
 use Rattle.cg_model.specs.World.{Up}
-use Rattle.cg_world_events.specs.Calls.{node, armed}
+use Rattle.cg_model.specs.Step.{armed}
+use Rattle.cg_world_events.specs.Nodes.{node, changed}
 use Rattle.cg_world_events.specs.Seen.{standing_at, state_at, disk_seen, up_seen}
 use Rattle.cg_world_events.specs.SeenLaws.{state-at}
 
@@ -27,7 +28,7 @@ module _ {D : Type 0} (view : D → DiskView) (old new : UpEngine D) (before aft
       (state-at view new.store.disk (armed_at at blow s) (arms.state ∙ ap (option_map (armed_at at blow)) told))
       ∙ (λ i. Some (record { call = ahead i; fault = fault_of blow after }))
 
-  pub arms_seen : up_seen view new after ≡ armed old.store.id strike (Up old.replica (disk_seen view old before))
+  pub arms_seen : up_seen view new after ≡ changed (up_seen view old before) (armed strike (up_seen view old before).life)
   unfolding disk_seen
   arms_seen = λ i.
       let u = standing_at (same.id i) (arms.reads i) in

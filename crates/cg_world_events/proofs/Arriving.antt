@@ -9,14 +9,13 @@ use Rattle.cg_store.specs.Formats.{newer}
 use Rattle.cg_store.specs.NewerLaws.{stands_newer}
 use Rattle.cg_store.specs.Stands.{Stands, created}
 use Rattle.cg_engine.specs.Engines.{Fallen}
-use Rattle.cg_model.specs.Step.{joiner_replica}
+use Rattle.cg_model.specs.Step.{joiner_replica, risen}
 use Rattle.cg_model.specs.World.{Up, TransferState}
-use Rattle.cg_world_events.specs.Calls.{node, risen}
+use Rattle.cg_world_events.specs.Nodes.{node, new_node, raised}
 use Rattle.cg_world_events.specs.CrashedDisk.{IsCrashedDisk}
 use Rattle.cg_world_events.specs.Seen.{disk_left, down_seen}
 use Rattle.cg_world_events.specs.SeenLaws.{disk-left}
 use Rattle.cg_transfer.specs.Calls.{IsOfJoined}
-use Rattle.cg_world_events.specs.Handing.{arrived}
 
 pub joined-rests : (d : DiskView) (s : TransferState) → IsOfJoined d s → IsCrashedDisk d s.joiner
 joined-rests d s is =
@@ -40,7 +39,7 @@ joined-keeps id h = refl
 
 -- so the replica that comes up from it is the one that joined, with a new disk
 pub arrives : {D : Type 0} (view : D → DiskView) (disk : D) (s : TransferState) → Stands s.joiner (view disk).reads (created (joiner_replica s.joiner s.content).held) →
-    (risen [] s.joiner (down_seen view (record { disk = disk; id = s.joiner; count = 0; green = [] })).life).0 ≡ arrived s
+    (let down = down_seen view (record { disk = disk; id = s.joiner; count = 0; green = [] }) in (raised down (risen [] down.life)).0) ≡ new_node s.joiner (joiner_replica s.joiner s.content)
 arrives view disk s stands =
     let w : Fallen _ = record { disk = disk; id = s.joiner; count = 0; green = [] } in
     let h = (joiner_replica s.joiner s.content).held in

@@ -23,7 +23,8 @@ use Rattle.cg_engine.specs.Defined.{strike_from}
 use Rattle.cg_engine.specs.Engines.{Up as UpEngine, Fallen, IsSame, told}
 use Rattle.cg_model.specs.Show.{EventEffects, news_of_recovery}
 use Rattle.cg_model.specs.World.{Up, Down, Node}
-use Rattle.cg_world_events.specs.Calls.{node, risen, risen_under}
+use Rattle.cg_model.specs.Step.{risen}
+use Rattle.cg_world_events.specs.Nodes.{node, raised, raised_under}
 use Rattle.cg_world_events.specs.RestingLaws.{stays_unarmed}
 use Rattle.cg_world_events.specs.Seen.{state_at, disk_seen, up_seen, FallsTo, fallen}
 use Rattle.cg_world_events.specs.SeenLaws.{disk-seen, state-at}
@@ -41,8 +42,8 @@ pub unarmed_behind : (old new : DiskView) (s z : DiskState) → old.state ≡ So
 unarmed_behind old new s z before none unstruck after =
     stays_unarmed old new s z unstruck before (subst (λ x. IfSome x (λ s. s.strike ≡ None)) before none) after
 
-abbrev comes_up : {D : Type 0} → (D → DiskView) → List ActionId → UpEngine D → List ActionId → Node × Option EventEffects
-comes_up view made e green = (up_seen view e [], Some (news_of_recovery made e.replica.held green))
+abbrev came_up : {D : Type 0} → (D → DiskView) → List ActionId → UpEngine D → List ActionId → Node × Option EventEffects
+came_up view made e green = (up_seen view e [], Some (news_of_recovery made e.replica.held green))
 
 -- ---- it comes up
 
@@ -81,18 +82,18 @@ module _ {D : Type 0} (view : D → DiskView) (w : Fallen D) (u : Standing) (sta
   green_is : green ≡ told w u.on.content
   green_is = is.green_is ∙ ap (λ (c : Stored). told w c) content_is
 
-  pub rises_seen : (made : List ActionId) → comes_up view made e green ≡ risen made w.id (fallen w u).life
+  pub rises_seen : (made : List ActionId) → came_up view made e green ≡ raised (fallen w u) (risen made (fallen w u).life)
   rises_seen made = λ i. (node (id_is i) (Up (replica_is i) (disk_is i)), Some (news_of_recovery made (replica_is i).held (green_is i)))
 
 -- ---- with a stop that is armed
 
 -- where it is reached or isn't
 pub risen_reached : (made : List ActionId) (p : ℕ) (strike : Strike) (disk : Disk) (green : List ActionId) → is_reached disk strike ≡ true →
-    risen_under made p strike (Down disk green) ≡ (node p (Down (recovery_outcome disk strike) green), None)
+    raised_under made strike (node p (Down disk green)) ≡ (node p (Down (recovery_outcome disk strike) green), None)
 risen_reached made p strike disk green is = rw is refl
 
 pub risen_passed : (made : List ActionId) (p : ℕ) (strike : Strike) (disk : Disk) (green : List ActionId) → is_reached disk strike ≡ false →
-    risen_under made p strike (Down disk green) ≡ risen made p (Down disk green)
+    raised_under made strike (node p (Down disk green)) ≡ raised (node p (Down disk green)) (risen made (Down disk green))
 risen_passed made p strike disk green is = rw is refl
 
 module _ {D : Type 0} (view : D → DiskView) (w x : Fallen D) (n : ℕ) (fill : List ℕ) (arms : Arms Stops n (view w.disk) (view x.disk)) (still : IsStill w x)
@@ -142,10 +143,10 @@ module _ {D : Type 0} (view : D → DiskView) (w x : Fallen D) (n : ℕ) (fill :
         let time : (view e.store.disk).time ≡ (view x.disk).time + recovery_calls is.standing.format = is.reached.time in
         lt-leb n (recovery_calls u.format) (omega (arith, ahead, calls, time, arms.time))
 
-    pub rises_under : (made : List ActionId) → comes_up view made f green ≡ risen_under made w.id strike (fallen w u).life
+    pub rises_under : (made : List ActionId) → came_up view made f green ≡ raised_under made strike (fallen w u)
     rises_under made =
         rises_seen view x u armed_stands e f green is same disarms.reads (unarmed z) (disarms.state ∙ ap (option_map unarmed) after) refl made
-        ∙ ap (λ (f : Node). risen made f.id f.life) fallen_is
+        ∙ ap (λ (f : Node). raised f (risen made f.life)) fallen_is
         ∙ sym (risen_passed made w.id strike (disk_in [] u) (told w u.on.content) passed)
 
   -- it stays down: the stop was reached
@@ -189,7 +190,7 @@ module _ {D : Type 0} (view : D → DiskView) (w x : Fallen D) (n : ℕ) (fill :
     names_stay : told y left.on.content ≡ told w u.on.content
     names_stay = ap (told y) content_stays ∙ (λ i. told (record { disk = w.disk; id = w.id; count = down.count_is i; green = down.green_is i }) u.on.content) ∙ told_is u.on.content
 
-    pub stays_under : (made : List ActionId) → (let stays : Node × Option EventEffects = (fallen y left, None) in stays ≡ risen_under made w.id strike (fallen w u).life)
+    pub stays_under : (made : List ActionId) → (let stays : Node × Option EventEffects = (fallen y left, None) in stays ≡ raised_under made strike (fallen w u))
     stays_under made =
         (λ i. (node ((down.id_is ∙ still.id_is) i) (Down (migrates_as_defined.struck u n Stops fill i) (names_stay i)), None))
         ∙ sym (risen_reached made w.id strike (disk_in [] u) (told w u.on.content) reached)

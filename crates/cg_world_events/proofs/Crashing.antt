@@ -12,7 +12,8 @@ use Rattle.cg_store.specs.Stands.{OnDisk, Stands, disk_of}
 use Rattle.cg_engine.specs.Answers.{Falls}
 use Rattle.cg_engine.specs.Engines.{Up as UpEngine, Fallen, told}
 use Rattle.cg_model.specs.World.{Down}
-use Rattle.cg_world_events.specs.Calls.{node, crashed}
+use Rattle.cg_model.specs.Step.{crashed}
+use Rattle.cg_world_events.specs.Nodes.{node, changed}
 use Rattle.cg_world_events.specs.Seen.{state_at, disk_seen, up_seen, FallsTo, fallen}
 use Rattle.cg_world_events.specs.SeenLaws.{state-at, disk-seen, falls-newer}
 
@@ -56,7 +57,7 @@ module _ {D : Type 0} (view : D → DiskView) (e : UpEngine D) (w : Fallen D) (f
       (subst (λ (id : ℕ). Stands id (left_by (state_at (view e.store.disk)) []) u) (sym falls.left.id_is)
       (subst (λ (c : Image). Stands e.store.id c u) (sym left) stands)))
 
-  pub falls_seen : (fill : List ℕ) → fallen w (newer u) ≡ crashed e.store.id (up_seen view e fill).life
+  pub falls_seen : (fill : List ℕ) → fallen w (newer u) ≡ changed (up_seen view e fill) (crashed (up_seen view e fill).life)
   falls_seen fill =
       let disk : disk_of [] u ≡ at_rest (disk_seen view e fill) = sym (ap at_rest (disk-seen view e fill u s stands state)) in
       let none : told w u.content ≡ [] = told_empty w u.content falls.green in

@@ -25,7 +25,9 @@ use Rattle.cg_engine.specs.Engines.{Up as UpEngine, Fallen, IsEngine, told}
 use Rattle.cg_engine.specs.declared.answers.Handled.{Handled}
 use Rattle.cg_engine.specs.declared.answers.Handled.TheVariants as handled
 use Rattle.cg_model.specs.World.{Up, Down, Node}
-use Rattle.cg_world_events.specs.Calls.{NodeOutput, spoken_of, node, behind, taken}
+use Rattle.cg_model.specs.Show.{news_of}
+use Rattle.cg_model.specs.Step.{behind, taken}
+use Rattle.cg_world_events.specs.Nodes.{NodeOutput, node, turned}
 use Rattle.cg_world_events.specs.Seen.{disk_seen, up_seen, FallsTo, fallen, said}
 use Rattle.cg_world_events.specs.SeenLaws.{disk-seen, state-at, falls-newer}
 
@@ -41,6 +43,10 @@ module _ {D : Type 0} (view : D → DiskView) (law : HandlesAsDefined view) (kep
   abbrev turn : Turn
   turn = replica_step old.replica input
 
+  -- what the replica has to say where it goes on
+  abbrev spoken : NodeOutput
+  spoken = (news_of turn, turn.sent)
+
   abbrev disk_before : Disk
   disk_before = disk_seen view old fill
 
@@ -48,7 +54,7 @@ module _ {D : Type 0} (view : D → DiskView) (law : HandlesAsDefined view) (kep
   store_at mid = let k = old.store in record k { disk = mid }
 
   abbrev wanted : EventEnd → Node × Option NodeOutput
-  wanted ended = behind old.store.id turn ended
+  wanted ended = turned (up_seen view old fill) (Some (behind turn ended))
 
   ends_seen : (result : Handled D) → HandlesEvent view old is.standing turn result → EndsAsDefined view disk_before old.replica.held turn fill result
   ends_seen result handles =
@@ -70,22 +76,22 @@ module _ {D : Type 0} (view : D → DiskView) (law : HandlesAsDefined view) (kep
   given e o mid count false ends = (ap (λ (k : StoreState D). k.id) ends.ends.0, ends.ends.1)
 
   -- a commit leaves the number of greens
-  says : (written : Bool) → said (outputs_of written (parts_of turn)) (replica_behind written turn.replica).held ≡ spoken_of turn
-  says true = λ i. record {
-    news = record { made = turn.made; green = turn.green; count = counts.same_count turn.replica.held (kept.step old.replica input is.follows.held) i; replies = turn.replies };
-    sent = turn.sent;
-  }
+  says : (written : Bool) → said (outputs_of written (parts_of turn)) (replica_behind written turn.replica).held ≡ spoken
+  says true = λ i. (
+    record { made = turn.made; green = turn.green; count = counts.same_count turn.replica.held (kept.step old.replica input is.follows.held) i; replies = turn.replies },
+    turn.sent,
+  )
   says false = refl
 
-  spoken_is : (e : UpEngine D) (o : Outputs) (written : Bool) → o ≡ outputs_of written (parts_of turn) → e.replica ≡ replica_behind written turn.replica → said o e.replica.held ≡ spoken_of turn
+  spoken_is : (e : UpEngine D) (o : Outputs) (written : Bool) → o ≡ outputs_of written (parts_of turn) → e.replica ≡ replica_behind written turn.replica → said o e.replica.held ≡ spoken
   spoken_is e o written out replica = (λ i. said (out i) (replica i).held) ∙ says written
 
-  pub goes_on : (e : UpEngine D) (o : Outputs) → HandlesEvent view old is.standing turn (handled.Running e o) → gone_on view e fill o ≡ taken old.store.id input (Up old.replica disk_before)
+  pub goes_on : (e : UpEngine D) (o : Outputs) → HandlesEvent view old is.standing turn (handled.Running e o) → gone_on view e fill o ≡ turned (up_seen view old fill) (taken input (Up old.replica disk_before))
   goes_on e o handles =
       let ran = ends_seen (handled.Running e o) handles in
       let written = commits old.replica.held turn in
       let parts = given e o handles.disk (green_count old.replica.held.queue) written handles.ends in
-      let speaks : said o e.replica.held ≡ spoken_of turn = spoken_is e o written parts.1 handles.ends.leaves in
+      let speaks : said o e.replica.held ≡ spoken = spoken_is e o written parts.1 handles.ends.leaves in
       let ended : end_event disk_before old.replica.held turn ≡ Runs e.replica (disk_seen view e fill) =
       ran.is ∙ ap (λ (d : Disk). Runs e.replica d) (sym (disk-seen view e fill ran.standing ran.state ran.stands ran.told)) in
       (λ i. (node (parts.0 i) (Up e.replica (disk_seen view e fill)), Some (speaks i))) ∙ ap wanted (sym ended)
@@ -93,7 +99,7 @@ module _ {D : Type 0} (view : D → DiskView) (law : HandlesAsDefined view) (kep
   -- ---- or it falls
 
   pub falls_down : (w : Fallen D) → HandlesEvent view old is.standing turn (handled.Down w) →
-      (s : Standing) × FallsTo view w fill s × (fallen_down w s ≡ taken old.store.id input (Up old.replica disk_before))
+      (s : Standing) × FallsTo view w fill s × (fallen_down w s ≡ turned (up_seen view old fill) (taken input (Up old.replica disk_before)))
   falls_down w handles =
       let fell = ends_seen (handled.Down w) handles in
       let u = fell.standing in

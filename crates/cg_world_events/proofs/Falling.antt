@@ -7,7 +7,7 @@ use Rattle.cg_disk.specs.View.{DiskView}
 use Rattle.cg_store.specs.Formats.{Standing, StandsFor}
 use Rattle.cg_engine.specs.Engines.{Fallen, told}
 use Rattle.cg_model.specs.World.{Down}
-use Rattle.cg_world_events.specs.Calls.{node}
+use Rattle.cg_world_events.specs.Nodes.{node}
 use Rattle.cg_world_events.specs.Seen.{FallsTo, fallen, down_seen}
 use Rattle.cg_world_events.specs.SeenLaws.{state-at, disk-left, green-left}
 

@@ -13,9 +13,8 @@ use Rattle.cg_states.specs.ReplicaStep.{Input, replica_step}
 use Rattle.cg_disk_records.specs.Crash.{EventEnd, Runs, Crashes, end_event}
 use Rattle.cg_model.specs.World.{NodeState, Up, Down, Node, World, running, node_of, replica_of, with_node, set_life}
 use Rattle.cg_model.specs.Show.{StepInProgress, news_of, tell}
-use Rattle.cg_model.specs.Step.{after_event, hand_to, hand}
-use Rattle.cg_world_events.specs.Calls.{behind, taken}
-use Rattle.cg_world_events.specs.StepInProgress.{comes_back}
+use Rattle.cg_model.specs.Step.{behind, taken, comes_back, hand}
+use Rattle.cg_world_events.specs.Nodes.{NodeOutput, node, turned}
 
 -- the first that passes a test passes it
 find-passes : (p : ℕ) (nodes : List Node) (s : Node) → find (λ s. s.id == p) nodes ≡ Some s → s.id ≡ p
@@ -45,38 +44,43 @@ up_taken (Some s) w after p up h = (
 
 -- ---- what comes back
 
+-- a node stands again, with what its replica has to say
+abbrev pub stands_again : StepInProgress → Node × Option NodeOutput → StepInProgress
+stands_again g (s, output) = comes_back g s.id (s.life, output)
+
 -- behind an event that has ended
 back-ended : (g : StepInProgress) (v : World) (p : ℕ) (t : Turn) (e : EventEnd) → ((life : NodeState) → set_life v p life ≡ set_life g.world p life) →
-    comes_back (record g { world = v }) (behind p t e) ≡ after_event g p t e
+    comes_back (record g { world = v }) p (behind t e) ≡ comes_back g p (behind t e)
 back-ended g v p t (Runs r disk) same = ap (λ (w : World). tell (record g { world = record w { group = send_all w.group p t.sent } }) (news_of t)) (same (Up r disk))
 back-ended g v p t (Crashes disk green) same =
     ap (λ (w : World). record g { world = record w { group = go_down w.group p; snapshots = filter (λ s. not (s.giver == p)) w.snapshots } }) (same (Down disk green))
 
 -- from a replica that is up
 back-up : (g : StepInProgress) (v : World) (p : ℕ) (input : Input) (life : NodeState) → is_some (running life) ≡ true →
-    ((life : NodeState) → set_life v p life ≡ set_life g.world p life) → comes_back (record g { world = v }) (taken p input life) ≡ hand_to g p input life
+    ((life : NodeState) → set_life v p life ≡ set_life g.world p life) →
+    stands_again (record g { world = v }) (turned (node p life) (taken input life)) ≡ option_map_or (comes_back g p) (taken input life) g
 back-up g v p input (Up r disk) up same = let t = replica_step r input in back-ended g v p t (end_event disk r.held t) same
 back-up g v p input (Down disk green) up same = absurd (let clash : false ≡ true = up in cc)
 
 -- from the node that was taken out
 pub back-taken : (g : StepInProgress) (v : World) (p : ℕ) (input : Input) (s : Node) → node_of g.world p ≡ Some s → is_some (running s.life) ≡ true →
-    ((life : NodeState) → set_life v p life ≡ set_life g.world p life) → comes_back (record g { world = v }) (taken s.id input s.life) ≡ hand g p input
+    ((life : NodeState) → set_life v p life ≡ set_life g.world p life) → stands_again (record g { world = v }) (turned s (taken input s.life)) ≡ hand g p input
 unfolding hand
 back-taken g v p input s there up same =
-    ap (λ n. comes_back (record g { world = v }) (taken n input s.life)) (find-passes p g.world.nodes s there)
+    ap (λ n. stands_again (record g { world = v }) (turned (node n s.life) (taken input s.life))) (find-passes p g.world.nodes s there)
     ∙ back-up g v p input s.life up same
-    ∙ sym (ap (λ o. option_map_or (λ (s : Node). hand_to g p input s.life) o g) there)
+    ∙ sym (ap (λ o. option_map_or (λ (s : Node). option_map_or (comes_back g p) (taken input s.life) g) o g) there)
 
 -- nothing comes of what is handed to a replica that isn't up
 pub hand-nobody : (g : StepInProgress) (p : ℕ) (input : Input) → replica_of g.world p ≡ None → g ≡ hand g p input
 unfolding hand
 hand-nobody g p input none = at_node (node_of g.world p) none
   where
-    at_life : (life : NodeState) → running life ≡ None → g ≡ hand_to g p input life
+    at_life : (life : NodeState) → running life ≡ None → g ≡ option_map_or (comes_back g p) (taken input life) g
     at_life (Up r disk) e = absurd (let clash : Some r ≡ None = e in cc)
     at_life (Down disk green) e = refl
 
-    at_node : (o : Option Node) → option_and_then (λ s. running s.life) o ≡ None → g ≡ option_map_or (λ s. hand_to g p input s.life) o g
+    at_node : (o : Option Node) → option_and_then (λ s. running s.life) o ≡ None → g ≡ option_map_or (λ s. option_map_or (comes_back g p) (taken input s.life) g) o g
     at_node None e = refl
     at_node (Some s) e = at_life s.life e
 
@@ -93,7 +97,7 @@ nobody-hands g self after p input same h =
 
 pub node-hands : (g self : StepInProgress) (after : World) (p : ℕ) (input : Input) (s : Node) → g ≡ self →
     (node_of g.world p ≡ Some s) × (is_some (running s.life) ≡ true) × ((life : NodeState) → set_life after p life ≡ set_life g.world p life) →
-    comes_back (record g { world = after }) (taken s.id input s.life) ≡ hand self p input
+    stands_again (record g { world = after }) (turned s (taken input s.life)) ≡ hand self p input
 node-hands g self after p input s same h = back-taken g after p input s h.0 h.1 h.2 ∙ ap (λ g. hand g p input) same
 
 pub node-booked : (book : ActionId → Action) (g self : StepInProgress) (p : ℕ) (input : Input) (s : Node) → g ≡ self → node_of g.world p ≡ Some s →

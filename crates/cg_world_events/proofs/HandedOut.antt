@@ -6,7 +6,8 @@ use Rattle.cg_disk_records.specs.Crash.{at_rest}
 use Rattle.cg_store.specs.Formats.{StandsFor, disk_in}
 use Rattle.cg_engine.specs.Engines.{Fallen}
 use Rattle.cg_model.specs.World.{NodeState, Up, Down, Node, World, node_disk, node_of}
-use Rattle.cg_world_events.specs.Calls.{crashed}
+use Rattle.cg_model.specs.Step.{crashed}
+use Rattle.cg_world_events.specs.Nodes.{node, changed}
 use Rattle.cg_world_events.specs.CrashedDisk.{IsCrashedDisk}
 use Rattle.cg_world_events.specs.DiskOut.{HoldsDisk, GivesDisk}
 use Rattle.cg_world_events.specs.Seen.{down_seen}
@@ -14,15 +15,15 @@ use Rattle.cg_world_events.specs.SeenLaws.{disk-left}
 use Rattle.cg_world_events.proofs.NodeFacts.{found}
 
 -- a crash leaves the disk at rest as it was
-rests_alike : (p : ℕ) (life : NodeState) → at_rest (node_disk (crashed p life).life) ≡ at_rest (node_disk life)
+rests_alike : (p : ℕ) (life : NodeState) → at_rest (node_disk (changed (node p life) (crashed life)).life) ≡ at_rest (node_disk life)
 rests_alike p (Up r disk) = refl
 rests_alike p (Down disk green) = refl
 
-same_node : (p : ℕ) (life : NodeState) → (crashed p life).id ≡ p
+same_node : (p : ℕ) (life : NodeState) → (changed (node p life) (crashed life)).id ≡ p
 same_node p (Up r disk) = refl
 same_node p (Down disk green) = refl
 
-module _ {D : Type 0} (view : D → DiskView) (w : Fallen D) (rests : IsCrashedDisk (view w.disk) w.id) (p : ℕ) (life : NodeState) (same : crashed p life ≡ down_seen view w) where
+module _ {D : Type 0} (view : D → DiskView) (w : Fallen D) (rests : IsCrashedDisk (view w.disk) w.id) (p : ℕ) (life : NodeState) (same : changed (node p life) (crashed life) ≡ down_seen view w) where
   whose : w.id ≡ p
   whose = sym (ap (λ (s : Node). s.id) same) ∙ same_node p life
 

@@ -1,8 +1,9 @@
 -- A replica's node is struck, or comes up from its disk: the node is taken out, and what stands again is what the definitions make of it.
-use Rattle.std.proofs.Common.{◌≡◌, ℕ, Bool, true, false, List, [], ◌∷◌, Option, Some, None, Result, Ok, Err, IfOk, OnOk, IfSome, is_some, find, fold, option_and_then, option_map, refl, sym, ap, subst, ◌∙◌, eqb-true, inl, inr}
+use Rattle.std.proofs.Common.{◌≡◌, ℕ, Bool, true, false, List, [], ◌∷◌, Option, Some, None, Result, Ok, Err, IfOk, OnOk, IfSome, is_some, not, filter, find, fold, option_and_then, option_map, refl, sym, ap, subst, ◌∙◌, eqb-true, inl, inr}
 use Rattle.std.specs.Prelude.{◌==◌, if◌then◌else◌}
 use Rattle.std.specs.Option.{option_map_or}
 use Rattle.std.proofs.lemmas.Bool.{cases_Bool, cond-true, cond-false}
+use Rattle.cg_base.specs.declared.action_id.ActionId.{ActionId}
 use Rattle.cg_action.specs.declared.action.Action.{Action}
 use Rattle.cg_queue.specs.Queue.{Marking, Marks, Gaps, marked_red}
 use Rattle.cg_queue.specs.declared.mark.Mark.TheVariants.{Placed, Known}
@@ -10,8 +11,8 @@ use Rattle.cg_group.specs.State.{is_up}
 use Rattle.cg_group.specs.Refusals.{refuse}
 use Rattle.cg_group.specs.declared.reason.Reason.{Reason}
 use Rattle.cg_group.specs.declared.reason.Reason.TheVariants.{Weighted}
-use Rattle.cg_group.specs.Events.{come_up}
-use Rattle.cg_client.specs.Replica.{NonPrim}
+use Rattle.cg_group.specs.Events.{come_up, go_down}
+use Rattle.cg_client.specs.Replica.{Replica, NonPrim}
 use Rattle.cg_client.specs.Turn.{Turn, begin}
 use Rattle.cg_client.specs.Marks.{marked}
 use Rattle.cg_client.specs.Summary.{redden, forget_own, own_to_red}
@@ -19,16 +20,15 @@ use Rattle.cg_disk_records.specs.Stored.{recovery_turn as recover_stored}
 use Rattle.cg_disk_records.specs.Crash.{Disk, Strike, at_rest, recovered, disk_recovered}
 use Rattle.cg_disk_records.specs.Recovery.{recovery_outcome, is_reached}
 use Rattle.cg_older.specs.Older.{has_weights}
-use Rattle.cg_older.specs.OldDisk.{old_disk}
 use Rattle.cg_model.specs.Admission.{is_weighted}
-use Rattle.cg_model.specs.World.{NodeState, Up, Down, Node, World, running, node_of, node_disk, disk_at, replica_of, with_node, set_life}
+use Rattle.cg_model.specs.World.{NodeState, Up, Down, Node, World, running, node_of, at_node, node_disk, disk_at, replica_of, with_node, set_life, bring_down}
 use Rattle.cg_model.specs.Looks.{on_disk}
 use Rattle.cg_model.specs.Show.{StepInProgress, EventEffects, news_of_recovery, tell}
-use Rattle.cg_model.specs.Step.{quietly, arm_at, arm, crash_at, stop, recover_from, recover, is_struck_at, stay_down_at, recover_under, downgrade_at, downgrade}
-use Rattle.cg_world_events.specs.Calls.{node, armed, crashed, risen, risen_under, downgraded, weighs}
-use Rattle.cg_world_events.specs.StepInProgress.{hosted, fallen}
+use Rattle.cg_model.specs.Step.{quietly, armed, crashed, stop, risen, recover, stays_down, recover_under, downgraded}
+use Rattle.cg_model.specs.AtNode.{comes_up}
+use Rattle.cg_world_events.specs.Nodes.{node, changed, raised, raised_under, weighs}
 use Rattle.cg_world_events.specs.Grounds.{IsHosted}
-use Rattle.cg_world_events.specs.Striking.{returned, back_with, telling}
+use Rattle.cg_world_events.specs.Striking.{back_with, telling}
 
 -- whose a found node is
 pub found-id : (nodes : List Node) (p : ℕ) (s : Node) → find (λ s. s.id == p) nodes ≡ Some s → s.id ≡ p
@@ -39,37 +39,42 @@ found-id (x ∷ nodes) p s e = elim (cases_Bool (x.id == p)) [
   | inr other ↦ found-id nodes p s (sym (cond-false (x.id == p) (Some x) (find (λ s. s.id == p) nodes) other) ∙ e)
 ]
 
+-- ---- what came of a node is put back
+
+module _ (w v : World) (p : ℕ) (s : Node) (there : node_of w p ≡ Some s) (same : (life : NodeState) → set_life v p life ≡ set_life w p life) where
+  -- something came of it
+  put-changed : (life : Option NodeState) → is_some life ≡ true → (let t = changed (node p s.life) life in set_life v t.id t.life) ≡ option_map_or (set_life w p) life w
+  put-changed (Some life) some = same life
+  put-changed None some = absurd (let clash : false ≡ true = some in cc)
+
+  pub put-made : (made : NodeState → Option NodeState) → is_some (made s.life) ≡ true → (let t = changed s (made s.life) in set_life v t.id t.life) ≡ at_node w p made (set_life w p) w
+  put-made made some =
+      ap (λ n. let t = changed (node n s.life) (made s.life) in set_life v t.id t.life) (found-id w.nodes p s there) ∙ put-changed (made s.life) some
+      ∙ sym (ap (λ o. option_map_or (λ (s : Node). option_map_or (set_life w p) (made s.life) w) o w) there)
+
+  -- where memory isn't refused
+  pub made-done : (made : NodeState → Option NodeState) → is_some (made s.life) ≡ true → (t : Node) → t ≡ changed s (made s.life) → {T E : Type 0} (result : Result T E) (nodes : List Node) →
+      OnOk result (nodes ≡ with_node v.nodes t) → OnOk result (record v { nodes = nodes } ≡ at_node w p made (set_life w p) w)
+  made-done made some t is (Ok x) nodes put = ap (λ list. record v { nodes = list }) put ∙ ap (λ (t : Node). set_life v t.id t.life) is ∙ put-made made some
+  made-done made some t is (Err e) nodes put = tt
+
 -- ---- a replica that is up is struck
 
-pub crashed-id : (p : ℕ) (life : NodeState) → (crashed p life).id ≡ p
-crashed-id p (Up r disk) = refl
-crashed-id p (Down disk green) = refl
+pub armed-some : (strike : Strike) (life : NodeState) → is_some (running life) ≡ true → is_some (armed strike life) ≡ true
+armed-some strike (Up r disk) up = refl
+armed-some strike (Down disk green) up = up
 
 module _ (w v : World) (p : ℕ) (s : Node) (there : node_of w p ≡ Some s) (up : is_some (running s.life) ≡ true)
     (same : (life : NodeState) → set_life v p life ≡ set_life w p life) where
-  fallen-up : (life : NodeState) → is_some (running life) ≡ true → fallen (hosted v (crashed p life)) p ≡ crash_at w p life
-  fallen-up (Up r disk) up = ap (λ x. fallen x p) (same (Down (at_rest disk) []))
+  fallen-up : (life : NodeState) → is_some (running life) ≡ true → (let t = changed (node p life) (crashed life) in bring_down v t.id t.life) ≡ option_map_or (bring_down w p) (crashed life) w
+  fallen-up (Up r disk) up =
+      ap (λ (x : World). record x { group = go_down x.group p; snapshots = filter (λ s. not (s.giver == p)) x.snapshots }) (same (Down (at_rest disk) []))
   fallen-up (Down disk green) up = absurd (let clash : false ≡ true = up in cc)
 
-  pub stop-up : (fill : List ℕ) → fallen (hosted v (crashed s.id s.life)) s.id ≡ stop w p 0 fill
+  pub stop-up : (fill : List ℕ) → (let t = changed s (crashed s.life) in bring_down v t.id t.life) ≡ stop w p 0 fill
   stop-up fill =
-      ap (λ n. fallen (hosted v (crashed n s.life)) n) (found-id w.nodes p s there) ∙ fallen-up s.life up
-      ∙ sym (ap (λ o. option_map_or (λ (s : Node). crash_at w p s.life) o w) there)
-
-  armed-up : (strike : Strike) (life : NodeState) → is_some (running life) ≡ true → hosted v (armed p strike life) ≡ arm_at w p strike life
-  armed-up strike (Up r disk) up = same (Up r (record disk { armed = Some strike }))
-  armed-up strike (Down disk green) up = absurd (let clash : false ≡ true = up in cc)
-
-  arm-up : (strike : Strike) → hosted v (armed s.id strike s.life) ≡ arm w p strike
-  arm-up strike =
-      ap (λ n. hosted v (armed n strike s.life)) (found-id w.nodes p s there) ∙ armed-up strike s.life up
-      ∙ sym (ap (λ o. option_map_or (λ (s : Node). arm_at w p strike s.life) o w) there)
-
-  -- where memory isn't refused
-  pub arm-done : (strike : Strike) (t : Node) → t ≡ armed s.id strike s.life → {T E : Type 0} (result : Result T E) (nodes : List Node) →
-      OnOk result (nodes ≡ with_node v.nodes t) → OnOk result (record v { nodes = nodes } ≡ arm w p strike)
-  arm-done strike t is (Ok x) nodes put = ap (λ list. record v { nodes = list }) put ∙ ap (hosted v) is ∙ arm-up strike
-  arm-done strike t is (Err e) nodes put = tt
+      ap (λ n. let t = changed (node n s.life) (crashed s.life) in bring_down v t.id t.life) (found-id w.nodes p s there) ∙ fallen-up s.life up
+      ∙ sym (ap (λ o. option_map_or (λ (s : Node). option_map_or (bring_down w p) (crashed s.life) w) o w) there)
 
 -- ---- the replica that comes up is the disk's
 
@@ -86,6 +91,18 @@ recovered-id : (disk : Disk) → (recovered disk).held.id ≡ disk.content.id
 unfolding recover_stored own_to_red
 recovered-id disk = reddened-id (forget_own (begin (record { held = disk.content; state = NonPrim false }))) disk.content.own
 
+-- ---- whose the node is that stands again
+
+pub raised-id : (s : Node) (up : Option (Replica × Disk × EventEffects)) → (raised s up).0.id ≡ s.id
+raised-id s None = refl
+raised-id s (Some up) = refl
+
+pub raised_under-id : (made : List ActionId) (strike : Strike) (s : Node) → (raised_under made strike s).0.id ≡ s.id
+raised_under-id made strike s = at (stays_down strike s.life) where
+  at : (o : Option NodeState) → (option_map_or (λ life. (node s.id life, None)) o (raised s (risen made s.life))).0.id ≡ s.id
+  at None = raised-id s (risen made s.life)
+  at (Some life) = refl
+
 -- ---- it comes up in the group too
 
 -- the group doesn't have the replica as up
@@ -101,8 +118,11 @@ module _ (w : World) (nodes : List Node) (p : ℕ) (s : Node) (is : IsHosted w) 
   abbrev up_as : ℕ → NodeState → World
   up_as n life = let up = set_life w n life in record up { group = come_up w.group n }
 
+  abbrev stands_again : Node × Option EventEffects → StepInProgress
+  stands_again back = telling (back_with taken_out back) back.1
+
   risen-down : (life : NodeState) → is_some (running life) ≡ false → (on_disk life).id ≡ p →
-      telling (returned taken_out (record { id = p; life = life })) (risen w.made p life).1 ≡ recover_from w life
+      stands_again (raised (node p life) (risen w.made life)) ≡ option_map_or (comes_up w) (risen w.made life) (quietly w)
   risen-down (Up r disk) down own = absurd (let clash : true ≡ false = down in cc)
   risen-down (Down disk green) down own =
       let r = recovered disk in
@@ -111,73 +131,67 @@ module _ (w : World) (nodes : List Node) (p : ℕ) (s : Node) (is : IsHosted w) 
       ap (λ list. tell (quietly (record w { nodes = list; group = come_up w.group p })) news) (again (record { id = p; life = life }) refl)
       ∙ ap (λ n. tell (quietly (up_as n life)) news) (sym (recovered-id disk ∙ own))
 
-  recover-down : telling (returned taken_out s) (risen w.made s.id s.life).1 ≡ recover w p
+  own : (on_disk s.life).id ≡ p
+  own = subst (λ o. IfSome (option_map (λ (s : Node). on_disk s.life) o) (λ h. h.id ≡ p)) there (is.disk p)
+
+  low : is_some (running s.life) ≡ false
+  low = subst (λ o. is_some (option_and_then (λ (s : Node). running s.life) o) ≡ false) there down
+
+  recover-down : stands_again (raised s (risen w.made s.life)) ≡ recover w p
   recover-down =
-      let own : (on_disk s.life).id ≡ p = subst (λ o. IfSome (option_map (λ (s : Node). on_disk s.life) o) (λ h. h.id ≡ p)) there (is.disk p) in
-      let low : is_some (running s.life) ≡ false = subst (λ o. is_some (option_and_then (λ (s : Node). running s.life) o) ≡ false) there down in
-      ap (λ n. telling (returned taken_out (record { id = n; life = s.life })) (risen w.made n s.life).1) (found-id w.nodes p s there)
+      ap (λ n. stands_again (raised (node n s.life) (risen w.made s.life))) (found-id w.nodes p s there)
       ∙ risen-down s.life low own
-      ∙ sym (ap (λ o. option_map_or (λ (s : Node). recover_from w s.life) o (quietly w)) there)
+      ∙ sym (ap (λ o. option_map_or (λ (s : Node). option_map_or (comes_up w) (risen w.made s.life) (quietly w)) o (quietly w)) there)
 
   -- and so it does where memory isn't refused
+  pub back-done : (back : Node × Option EventEffects) (g : StepInProgress) → stands_again back ≡ g → {E : Type 0} (result : Result (Option EventEffects) E) (after : World) →
+      IfOk result (λ news. (after ≡ back_with taken_out back) × (news ≡ back.1)) → IfOk result (λ news. telling after news ≡ g)
+  back-done back g is (Ok news) after done = ap (λ x. telling x news) done.0 ∙ ap (telling (back_with taken_out back)) done.1 ∙ is
+  back-done back g is (Err e) after done = tt
+
   pub recover-done : {E : Type 0} (result : Result (Option EventEffects) E) (after : World) →
-      IfOk result (λ news. (after ≡ returned taken_out s) × (news ≡ (risen w.made s.id s.life).1)) → IfOk result (λ news. telling after news ≡ recover w p)
-  recover-done (Ok news) after done = ap (λ x. telling x news) done.0 ∙ ap (telling (returned taken_out s)) done.1 ∙ recover-down
-  recover-done (Err e) after done = tt
+      (let back = raised s (risen w.made s.life) in IfOk result (λ news. (after ≡ back_with taken_out back) × (news ≡ back.1))) → IfOk result (λ news. telling after news ≡ recover w p)
+  recover-done result after done = back-done (raised s (risen w.made s.life)) (recover w p) recover-down result after done
 
   -- ---- with a stop that is armed
 
-  abbrev back : ℕ → Strike → NodeState → Node × Option EventEffects
-  back n strike life = risen_under w.made n strike life
-
-  abbrev stands_again : Node × Option EventEffects → StepInProgress
-  stands_again back = telling (back_with taken_out back) back.1
-
   risen-under : (strike : Strike) (life : NodeState) → is_some (running life) ≡ false → (on_disk life).id ≡ p →
-      stands_again (back p strike life) ≡ (if is_struck_at strike life then quietly (stay_down_at w p strike life) else recover_from w life)
+      stands_again (raised_under w.made strike (node p life))
+      ≡ option_map_or (λ life. quietly (set_life w p life)) (stays_down strike life) (option_map_or (comes_up w) (risen w.made life) (quietly w))
   risen-under strike (Up r disk) down own = absurd (let clash : true ≡ false = down in cc)
   risen-under strike (Down disk green) down own = at (is_reached disk strike) where
-    at : (b : Bool) →
-        stands_again (if b then (node p (Down (recovery_outcome disk strike) green), None) else risen w.made p (Down disk green))
-        ≡ (if b then quietly (stay_down_at w p strike (Down disk green)) else recover_from w (Down disk green))
-    at true = ap (λ list. quietly (record w { nodes = list })) (again (record { id = p; life = Down (recovery_outcome disk strike) green }) refl)
+    left : NodeState
+    left = Down (recovery_outcome disk strike) green
+
+    rises : Option (Replica × Disk × EventEffects)
+    rises = risen w.made (Down disk green)
+
+    at : (b : Bool) → (let stays : Option NodeState = if b then Some left else None in
+        stands_again (option_map_or (λ life. (node p life, None)) stays (raised (node p (Down disk green)) rises))
+        ≡ option_map_or (λ life. quietly (set_life w p life)) stays (option_map_or (comes_up w) rises (quietly w)))
+    at true = ap (λ list. quietly (record w { nodes = list })) (again (record { id = p; life = left }) refl)
     at false = risen-down (Down disk green) down own
 
-  under-down : (strike : Strike) → stands_again (back s.id strike s.life) ≡ recover_under w p strike
+  under-down : (strike : Strike) → stands_again (raised_under w.made strike s) ≡ recover_under w p strike
   under-down strike =
-      let own : (on_disk s.life).id ≡ p = subst (λ o. IfSome (option_map (λ (s : Node). on_disk s.life) o) (λ h. h.id ≡ p)) there (is.disk p) in
-      let low : is_some (running s.life) ≡ false = subst (λ o. is_some (option_and_then (λ (s : Node). running s.life) o) ≡ false) there down in
-      ap (λ n. stands_again (back n strike s.life)) (found-id w.nodes p s there)
+      ap (λ n. stands_again (raised_under w.made strike (node n s.life))) (found-id w.nodes p s there)
       ∙ risen-under strike s.life low own
-      ∙ sym (ap (λ o. if option_map_or (λ (s : Node). is_struck_at strike s.life) o false then quietly (option_map_or (λ (s : Node). stay_down_at w p strike s.life) o w)
-      else option_map_or (λ (s : Node). recover_from w s.life) o (quietly w)) there)
+      ∙ sym (ap (λ o. option_map_or (λ (s : Node). option_map_or (λ life. quietly (set_life w p life)) (stays_down strike s.life)
+      (option_map_or (λ (s : Node). option_map_or (comes_up w) (risen w.made s.life) (quietly w)) o (quietly w))) o (option_map_or (λ (s : Node). option_map_or (comes_up w) (risen w.made s.life) (quietly w)) o (quietly w))) there)
 
   pub under-done : (strike : Strike) → {E : Type 0} (result : Result (Option EventEffects) E) (after : World) →
-      IfOk result (λ news. (after ≡ back_with taken_out (back s.id strike s.life)) × (news ≡ (back s.id strike s.life).1)) → IfOk result (λ news. telling after news ≡ recover_under w p strike)
-  under-done strike (Ok news) after done =
-      ap (λ x. telling x news) done.0 ∙ ap (telling (back_with taken_out (back s.id strike s.life))) done.1 ∙ under-down strike
-  under-done strike (Err e) after done = tt
+      (let back = raised_under w.made strike s in IfOk result (λ news. (after ≡ back_with taken_out back) × (news ≡ back.1))) → IfOk result (λ news. telling after news ≡ recover_under w p strike)
+  under-done strike result after done = back-done (raised_under w.made strike s) (recover_under w p strike) (under-down strike) result after done
 
 -- ---- its disk becomes one of the older format
 
-module _ (w : World) (nodes : List Node) (p : ℕ) (s : Node) (there : node_of w p ≡ Some s) (down : is_some (replica_of w p) ≡ false)
-    (again : (t : Node) → t.id ≡ p → with_node nodes t ≡ with_node w.nodes t) where
-  made-old : (life : NodeState) → is_some (running life) ≡ false → hosted (record w { nodes = nodes }) (downgraded p life) ≡ downgrade_at w p life
-  made-old (Up r disk) low = absurd (let clash : true ≡ false = low in cc)
-  made-old (Down disk green) low = ap (λ list. record w { nodes = list }) (again (record { id = p; life = Down (old_disk disk.content) green }) refl)
+downgraded-some : (life : NodeState) → is_some (running life) ≡ false → is_some (downgraded life) ≡ true
+downgraded-some (Up r disk) down = absurd (let clash : true ≡ false = down in cc)
+downgraded-some (Down disk green) down = refl
 
-  old-made : hosted (record w { nodes = nodes }) (downgraded s.id s.life) ≡ downgrade w p
-  old-made =
-      let low : is_some (running s.life) ≡ false = subst (λ o. is_some (option_and_then (λ (s : Node). running s.life) o) ≡ false) there down in
-      ap (λ n. hosted (record w { nodes = nodes }) (downgraded n s.life)) (found-id w.nodes p s there)
-      ∙ made-old s.life low
-      ∙ sym (ap (λ o. option_map_or (λ (s : Node). downgrade_at w p s.life) o w) there)
-
-  -- and so it does where memory isn't refused
-  pub old-done : (t : Node) → t ≡ downgraded s.id s.life → {T E : Type 0} (result : Result T E) (list : List Node) →
-      OnOk result (list ≡ with_node nodes t) → OnOk result (record w { nodes = list } ≡ downgrade w p)
-  old-done t is (Ok x) list put = ap (λ l. record w { nodes = l }) put ∙ ap (hosted (record w { nodes = nodes })) is ∙ old-made
-  old-done t is (Err e) list put = tt
+-- something comes of one that is down
+pub old-some : (w : World) (p : ℕ) (s : Node) → node_of w p ≡ Some s → is_some (replica_of w p) ≡ false → is_some (downgraded s.life) ≡ true
+old-some w p s there down = downgraded-some s.life (subst (λ o. is_some (option_and_then (λ (s : Node). running s.life) o) ≡ false) there down)
 
 -- no weight stands on the disk of a replica that isn't refused for one
 weighs-on : (life : NodeState) → has_weights (node_disk life).content ≡ false → weighs life ≡ false

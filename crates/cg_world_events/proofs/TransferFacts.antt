@@ -1,5 +1,5 @@
 -- The snapshots under way, after one was taken out or its giver went down, and the one of which pieces are taken.
-use Rattle.std.proofs.Common.{◌≡◌, Bool, true, false, ℕ, zero, suc, ◌<◌, ◌≤◌, cond, not, List, [], ◌∷◌, length, Option, Some, None, is_some, refl, sym, ap, ◌∙◌, arith, eqb-true, filter, find, position, get_or, inl, inr, ⊎_elim, nat_lt, option_and_then, option_map}
+use Rattle.std.proofs.Common.{◌≡◌, Bool, true, false, ℕ, zero, suc, ◌<◌, ◌≤◌, cond, not, List, [], ◌∷◌, length, Option, Some, None, is_some, refl, sym, ap, ◌∙◌, arith, eqb-true, filter, find, position, get_or, inl, inr, ⊎_elim, nat_lt, option_and_then}
 use Rattle.std.specs.Prelude.{◌==◌, ◌&&◌}
 use Rattle.std.specs.List.{remove, position_or_len, slice_get}
 use Rattle.std.specs.Option.{option_map_or}
@@ -16,14 +16,12 @@ use Rattle.cg_group.specs.State.{GroupState, is_up}
 use Rattle.cg_wire.specs.declared.message.Msg.{Msg}
 use Rattle.cg_base.specs.Lists.{first_some}
 use Rattle.cg_client.specs.Replica.{Replica}
-use Rattle.cg_model.specs.World.{World, Node, TransferState, running, node_of, has_begun, with_node}
+use Rattle.cg_model.specs.World.{World, Node, TransferState, running, node_of, has_begun, with_node, bring_down}
 use Rattle.cg_model.specs.Admission.{takes_part, never_named, joiner_left, not_green}
 use Rattle.cg_model.specs.AdmissionCalls.{begun_already}
-use Rattle.cg_model.specs.Step.{quietly, snapshot_for, without_snapshot, transfer}
-use Rattle.cg_world_events.specs.StepInProgress.{hosted, fallen}
+use Rattle.cg_model.specs.Step.{quietly, snapshot_for, without_snapshot, takes, transfer}
 use Rattle.cg_world_events.specs.Grounds.{IsHosted}
-use Rattle.cg_world_events.specs.Handing.{Chooses, takes}
-use Rattle.cg_group.specs.RefusalLaws.{refuse_none}
+use Rattle.cg_world_events.specs.Choosing.{Chooses}
 
 -- ---- one is taken out
 
@@ -125,10 +123,10 @@ joiner-down w p joiner is admitted =
 -- ---- a giver goes down
 
 -- what stands where its node stands again, the group doesn't have it any more, and its snapshots have ended
-pub down-with : (w : World) (s : Node) (p n : ℕ) (group : GroupState Msg) (nodes : List Node) (snapshots : List TransferState) → p ≡ n →
+pub down-with : (w : World) (s : Node) (p : ℕ) (group : GroupState Msg) (nodes : List Node) (snapshots : List TransferState) → p ≡ s.id →
     group ≡ go_down w.group p → nodes ≡ with_node w.nodes s → snapshots ≡ filter (λ t. not (t.giver == p)) w.snapshots →
-    record w { group = group; nodes = nodes; snapshots = snapshots } ≡ fallen (hosted w s) n
-down-with w s p n group nodes snapshots same down put ended =
+    record w { group = group; nodes = nodes; snapshots = snapshots } ≡ bring_down w s.id s.life
+down-with w s p group nodes snapshots same down put ended =
     λ i. record w {
       group = (down ∙ ap (go_down w.group) same) i;
       nodes = put i;

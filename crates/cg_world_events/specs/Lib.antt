@@ -1,11 +1,11 @@
 pub mod StepInProgress
 pub mod Grounds
-pub mod Handing
+pub mod Nodes
 pub mod Happening
 pub mod Hosting
 pub mod Striking
 pub mod GroundLaws
-pub mod Calls
+pub mod Choosing
 pub mod CrashedDisk
 pub mod DiskOut
 pub mod RestingLaws

@@ -16,7 +16,7 @@ use Rattle.cg_store.specs.declared.outputs.Outputs.{Outputs}
 use Rattle.cg_engine.specs.Engines.{Up as UpEngine, Fallen, told}
 use Rattle.cg_engine.specs.Defined.{account}
 use Rattle.cg_model.specs.World.{Up, Down, Node}
-use Rattle.cg_world_events.specs.Calls.{NodeOutput, node}
+use Rattle.cg_world_events.specs.Nodes.{NodeOutput, node}
 use Rattle.cg_world_events.specs.declared.node_state.NodeState.{NodeState}
 use Rattle.cg_world_events.specs.declared.node_state.NodeState.TheVariants.{Up as UpHeld, Down as DownHeld}
 
@@ -67,7 +67,7 @@ fallen w s = node w.id (Down (disk_in [] s) (told w s.on.content))
 
 -- behind an event that gives this out, at a replica that holds this
 abbrev pub said : Outputs → Held → NodeOutput
-said outputs h = record {
-  news = record { made = outputs.made; green = outputs.green; count = green_count h.queue; replies = outputs.replies };
-  sent = outputs.sent;
-}
+said outputs h = (
+  record { made = outputs.made; green = outputs.green; count = green_count h.queue; replies = outputs.replies },
+  outputs.sent,
+)

@@ -12,7 +12,7 @@ use Rattle.cg_engine.specs.Engines.{Up as UpEngine, Fallen, told}
 use Rattle.cg_engine.specs.Defined.{account}
 use Rattle.cg_world_events.specs.Seen.{standing_at, resting_at, state_at, disk_seen, disk_left, green_left, down_seen, FallsTo, fallen}
 use Rattle.cg_model.specs.World.{Down}
-use Rattle.cg_world_events.specs.Calls.{node}
+use Rattle.cg_world_events.specs.Nodes.{node}
 
 pub standing-at : {D : Type 0} → (view : D → DiskView) → (id : ℕ) (disk : D) (u : OnDisk) →
     Stands id (view disk).reads u → standing_at id (view disk).reads ≡ u

@@ -1,14 +1,18 @@
 //! Snapshots go to joiners, piece by piece.
-ghost use Rattle.std.specs.Prelude.{◌≡◌, ◌∷◌, [], false, IfOk, OnOk};
+ghost use Rattle.std.specs.Prelude.{◌≡◌, ◌∷◌, [], false, option_map, IfOk, OnOk};
 ghost use Rattle.cg_group.specs.State.{is_up};
 ghost use Rattle.cg_records.specs.Limits.{IsNumber};
 ghost use Rattle.cg_report.specs.declared.entry.Shown.TheVariants.{Pieces};
 ghost use Rattle.cg_schedule.specs.declared.event.Event.TheVariants.{Transfer as TransferEvent};
 ghost use Rattle.cg_client.specs.Joined.{piece_count};
-ghost use Rattle.cg_model.specs.Step.{transfer};
+ghost use Rattle.cg_disk_records.specs.Crash.{new_disk};
+ghost use Rattle.cg_model.specs.World.{replica_of, bring_up};
+ghost use Rattle.cg_model.specs.Step.{joiner_replica, handed, takes, transfer};
+ghost use Rattle.cg_transfer.specs.Calls.{copy_of};
+ghost use Rattle.cg_world_events.specs.Choosing.{Chooses};
+ghost use Rattle.cg_world_events.specs.Nodes.{new_node};
 ghost use Rattle.cg_world_events.specs.StepInProgress.{IsQuiet};
 ghost use Rattle.cg_world_events.specs.Grounds.{IsHosted};
-ghost use Rattle.cg_world_events.specs.Handing.{new_copy, Chooses, arrived, joins, handed, takes};
 ghost use Rattle.cg_world_events.specs.Happening.{Happens};
 
 use crate::admission::{admit, transfer_refused};
@@ -78,7 +82,8 @@ fn copy(
     p: ReplicaId,
     joiner: ReplicaId,
 ) -> Result<Option<Transfer>, NoMemory>
-    ensures copy { IfOk result (λ found. found ≡ new_copy state.old p joiner) }
+    ensures copy { IfOk result (λ found. found ≡
+        option_map (λ r. copy_of joiner p r.held) (replica_of state.old p)) }
     ensures world { state.new ≡ state.old }
 {
     let number = state.given.next_number(state.nodes.alloc(), p)?;
@@ -92,7 +97,8 @@ fn copy_of(
     joiner: ReplicaId,
 ) -> Result<Option<Transfer>, NoMemory>
     requires { IsNumber number }
-    ensures { IfOk result (λ found. found ≡ new_copy state.now p joiner) }
+    ensures { IfOk result (λ found. found ≡
+        option_map (λ r. copy_of joiner p r.held) (replica_of state.now p)) }
 {
     match state.core(p) {
         Some(core) => {
@@ -147,7 +153,9 @@ fn hand(alloc: Global, state: &mut WorldState, snapshot: Transfer) -> Result<(),
 fn join_in(alloc: Global, state: &mut WorldState, snapshot: Transfer) -> Result<(), NoMemory>
     requires down { is_up state.old.group snapshot.joiner ≡ false }
     requires all { snapshot.taken ≡ piece_count snapshot.content }
-    ensures { OnOk result (state.new ≡ joins state.old snapshot) }
+    ensures { OnOk result (
+        let r = joiner_replica snapshot.joiner snapshot.content in
+        state.new ≡ bring_up state.old r (new_disk r.held)) }
 {
     let joiner = snapshot.joiner();
     let node = arrive(alloc, snapshot)?;
@@ -158,7 +166,8 @@ fn join_in(alloc: Global, state: &mut WorldState, snapshot: Transfer) -> Result<
 // The joiner is up with its new disk.
 fn arrive(alloc: Global, snapshot: Transfer) -> Result<Node, NoMemory>
     requires { snapshot.taken ≡ piece_count snapshot.content }
-    ensures { IfOk result (λ s. s ≡ arrived snapshot) }
+    ensures { IfOk result (λ s. s ≡
+        new_node snapshot.joiner (joiner_replica snapshot.joiner snapshot.content)) }
 {
     let joiner = snapshot.joiner();
     let disk = snapshot.finish()?;

@@ -3,10 +3,10 @@
 //! A `WorldState` is the world of `cg_model`'s definitions; an event on the way is its `StepInProgress`, which is changed
 //! in place. The one contract: `happen` makes of it what `happens` says, or tells the first refusal.
 //!
-//! A replica with its disk is a `Node`: up, with its engine, or down, with what a crash left. Each call on it is the
-//! function of the same matter of `specs/Calls.antt`. An `EntryBuilder` is told replica by replica what the step shows:
-//! the actions made, the places of the global order that were reached first, the replies by place, and the lines that
-//! differ from the last printed ones.
+//! A replica with its disk is a `Node`: up, with its engine, or down, with what a crash left. Each call on it gives back
+//! the node with what the definition of the same matter (Step of `cg_model`) makes of its life (`specs/Nodes.antt`). An
+//! `EntryBuilder` is told replica by replica what the step shows: the actions made, the places of the global order that
+//! were reached first, the replies by place, and the lines that differ from the last printed ones.
 #![tactic(auto)]
 
 mod admission;

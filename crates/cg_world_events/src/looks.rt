@@ -1,11 +1,16 @@
 //! What is seen of a replica with its disk.
-ghost use Rattle.std.specs.Prelude.{◌≡◌, ◌∷◌, [], IfOk, IfSome, is_some, option_map};
-ghost use Rattle.std.specs.Option.{option_copied};
+ghost use Rattle.std.specs.Prelude.{◌≡◌, ◌∷◌, [], false, IfOk, IfSome, is_some, option_map};
+ghost use Rattle.std.specs.Option.{option_copied, option_map_or};
+ghost use Rattle.cg_base.specs.Sets.{has};
+ghost use Rattle.cg_members.specs.Servers.{is_server};
+ghost use Rattle.cg_client.specs.Requests.{is_creating};
 ghost use Rattle.cg_client.specs.Queries.{weak_answer, dirty_answer};
 ghost use Rattle.cg_report.specs.declared.entry.Shown.TheVariants.{Weak as ShownWeak, Dirty as ShownDirty};
 ghost use Rattle.cg_disk_records.specs.Holds.{Holds};
-ghost use Rattle.cg_model.specs.World.{running};
-ghost use Rattle.cg_world_events.specs.Calls.{creates_in, weighs, line_in, is_gone, knows_left, knows_server, shows, shows_weak, shows_dirty};
+ghost use Rattle.cg_model.specs.World.{running, is_left_state};
+ghost use Rattle.cg_model.specs.Show.{up_line};
+ghost use Rattle.cg_model.specs.Step.{shown_of};
+ghost use Rattle.cg_world_events.specs.Nodes.{weighs};
 
 use crate::Node;
 use crate::node_state::NodeState;
@@ -51,7 +56,7 @@ impl Node {
 
     /// It is up, and has left for good. It takes no memory.
     pub fn is_left(&self) -> bool
-        ensures { result ≡ is_gone self.now.life }
+        ensures { result ≡ option_map_or (λ r. is_left_state r.state) (running self.now.life) false }
     {
         match &self.life {
             NodeState::Up { engine, .. } => engine.left(),
@@ -61,7 +66,7 @@ impl Node {
 
     /// It is up, and knows that the server has left. It takes no memory.
     pub fn knows_left(&self, q: ReplicaId) -> bool
-        ensures { result ≡ knows_left q self.now.life }
+        ensures { result ≡ option_map_or (λ r. has r.held.members.left q) (running self.now.life) false }
     {
         match &self.life {
             NodeState::Up { engine, .. } => engine.core().left().contains(q),
@@ -71,7 +76,7 @@ impl Node {
 
     /// It is up, and knows the server. It takes no memory.
     pub fn knows_server(&self, q: ReplicaId) -> bool
-        ensures { result ≡ knows_server q self.now.life }
+        ensures { result ≡ option_map_or (λ r. is_server r.held.members q) (running self.now.life) false }
     {
         match &self.life {
             NodeState::Up { engine, .. } => engine.core().members().is_member(q),
@@ -81,7 +86,7 @@ impl Node {
 
     /// It is up, and creates a request at once. It takes no memory.
     pub fn is_creating(&self) -> bool
-        ensures { result ≡ creates_in self.now.life }
+        ensures { result ≡ option_map_or (λ r. is_creating r.state) (running self.now.life) false }
     {
         match &self.life {
             NodeState::Up { engine, .. } => engine.is_creating(),
@@ -102,7 +107,10 @@ impl Node {
 
     /// Its line, where it stands so in the group.
     pub fn line(&self, phase: Phase) -> Result<Line, NoMemory>
-        ensures { IfOk result (λ l. l ≡ line_in phase self.now) }
+        ensures { IfOk result (λ l. l ≡ record {
+          id = self.now.id;
+          up = option_map (up_line phase) (running self.now.life);
+        }) }
     {
         match &self.life {
             NodeState::Up { engine, .. } => engine.line(phase),
@@ -115,7 +123,7 @@ impl Node {
 
     /// Its green actions and its database, where it is up.
     pub fn shows(&self, alloc: Global) -> Result<Row<Shown>, NoMemory>
-        ensures { IfOk result (λ list. list ≡ shows self.now.life) }
+        ensures { IfOk result (λ list. list ≡ option_map_or shown_of (running self.now.life) []) }
     {
         match &self.life {
             NodeState::Up { engine, .. } => engine.shows(alloc),
@@ -125,7 +133,8 @@ impl Node {
 
     /// The answer of its green actions, where it is up.
     pub fn shows_weak(&self, alloc: Global, query: &Query) -> Result<Row<Shown>, NoMemory>
-        ensures { IfOk result (λ list. list ≡ shows_weak self.now.id query.now self.now.life) }
+        ensures { IfOk result (λ list. list ≡
+            option_map_or (λ r. ShownWeak self.now.id (weak_answer r.held query.now) ∷ []) (running self.now.life) []) }
     {
         let p = self.id();
         match &self.life {
@@ -136,7 +145,8 @@ impl Node {
 
     /// The answer of all actions that it knows, where it is up.
     pub fn shows_dirty(&self, alloc: Global, query: &Query) -> Result<Row<Shown>, NoMemory>
-        ensures { IfOk result (λ list. list ≡ shows_dirty self.now.id query.now self.now.life) }
+        ensures { IfOk result (λ list. list ≡
+            option_map_or (λ r. ShownDirty self.now.id (dirty_answer r.held query.now) ∷ []) (running self.now.life) []) }
     {
         let p = self.id();
         match &self.life {

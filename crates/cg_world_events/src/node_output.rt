@@ -18,23 +18,23 @@ impl Drop for NodeOutput {
 }
 
 impl Model for NodeOutput {
-    ghost use Rattle.cg_world_events.specs.Calls.{NodeOutput};
+    ghost use Rattle.cg_world_events.specs.Nodes.{NodeOutput};
 
     ghost Value = { NodeOutput };
 
-    ghost view = { λ s. record { news = s.news; sent = s.sent } };
+    ghost view = { λ s. (s.news, s.sent) };
 }
 
 impl NodeOutput {
     pub fn new(news: EventEffects, sent: Row<EncodedMsg>) -> NodeOutput
-        ensures { result ≡ record { news = news; sent = sent } }
+        ensures { result ≡ (news, sent) }
     {
         NodeOutput { news, sent }
     }
 
     /// What is to be shown, and the messages. It takes no memory.
     pub fn into_parts(self) -> (EventEffects, Row<EncodedMsg>)
-        ensures { result ≡ (self.news, self.sent) }
+        ensures { result ≡ self }
     {
         let NodeOutput { news, sent } = self;
         (news, sent)

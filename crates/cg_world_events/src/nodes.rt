@@ -4,7 +4,8 @@ ghost use Rattle.std.specs.Option.{option_copied};
 ghost use Rattle.std.specs.List.{prefix_len};
 ghost use Rattle.cg_base.specs.Sets.{IsId};
 ghost use Rattle.cg_model.specs.World.{with_node};
-ghost use Rattle.cg_world_events.specs.Calls.{crashed};
+ghost use Rattle.cg_model.specs.Step.{crashed};
+ghost use Rattle.cg_world_events.specs.Nodes.{changed};
 ghost use Rattle.cg_world_events.specs.Hosting.{ups, with_up};
 ghost use Rattle.cg_model.specs.World.{Node as NodeView};
 
@@ -62,7 +63,7 @@ impl BoxedNode {
 
     /// `crash` of the node.
     pub(crate) fn crash(self, alloc: Global) -> Result<BoxedNode, NoMemory>
-        ensures { IfOk result (λ b. b ≡ crashed self.id self.life) }
+        ensures { IfOk result (λ b. b ≡ changed self (crashed self.life)) }
     {
         let node = self.into_inner().crash()?;
         BoxedNode::new(alloc, node)

@@ -5,12 +5,12 @@ ghost use Rattle.cg_disk_records.specs.Crash.{StopWith};
 ghost use Rattle.cg_schedule.specs.declared.event.Event.TheVariants.{Recover, RecoverStopped, Downgrade};
 ghost use Rattle.cg_model.specs.Admission.{is_weighted};
 ghost use Rattle.cg_model.specs.World.{replica_of};
-ghost use Rattle.cg_model.specs.Step.{recover, recover_under, downgrade};
-ghost use Rattle.cg_world_events.specs.Calls.{risen, risen_under};
+ghost use Rattle.cg_model.specs.Step.{risen, recover, recover_under, downgrade};
 ghost use Rattle.cg_world_events.specs.Grounds.{IsHosted};
 ghost use Rattle.cg_world_events.specs.Happening.{Happens};
 ghost use Rattle.cg_world_events.specs.StepInProgress.{IsQuiet};
-ghost use Rattle.cg_world_events.specs.Striking.{returned, back_with, telling};
+ghost use Rattle.cg_world_events.specs.Nodes.{raised, raised_under};
+ghost use Rattle.cg_world_events.specs.Striking.{back_with, telling};
 
 use crate::admission::{admit, cannot_rise, is_weighted};
 use crate::{EventEffects, Node, StepInProgress, WorldState};
@@ -69,14 +69,12 @@ fn recover_node(
     node: Node,
 ) -> Result<Option<EventEffects>, NoMemory>
     requires { is_up state.old.group node.id ≡ false }
-    ensures { IfOk result (λ news. (state.new ≡ returned state.old node)
-        × (news ≡ (risen state.old.made node.id node.life).1)) }
+    ensures { IfOk result (λ news.
+        let back = raised node (risen state.old.made node.life) in
+        (state.new ≡ back_with state.old back) × (news ≡ back.1)) }
 {
-    let id = node.id();
     let (node, news) = node.recover(alloc, &state.made.get())?;
-    state.nodes.put(node)?;
-    state.group.add(id)?;
-    Ok(news)
+    put_back(state, node, news)
 }
 
 // The replica comes back from its disk, unless it is stopped in the device call of this number, which leaves these bytes in
@@ -150,7 +148,7 @@ fn recover_node_under(
     requires outside { is_up state.old.group node.id ≡ false }
     requires counted { 1 ≤ call }
     ensures { IfOk result (λ news.
-        let back = risen_under state.old.made node.id (record { call = call; fault = StopWith fill.now }) node.life in
+        let back = raised_under state.old.made (record { call = call; fault = StopWith fill.now }) node in
         (state.new ≡ back_with state.old back) × (news ≡ back.1)) }
 {
     let (node, news) = node.recover_stopped(alloc, call, fill.as_slice(), &state.made.get())?;

@@ -3,7 +3,8 @@ ghost use Rattle.std.specs.Prelude.{◌≡◌, ◌≤◌, List, ℕ, [], Some, N
 ghost use Rattle.cg_disk_records.specs.Crash.{FailOnce, StopWith};
 ghost use Rattle.cg_model.specs.Show.{news_of_recovery};
 ghost use Rattle.cg_model.specs.World.{node_disk};
-ghost use Rattle.cg_world_events.specs.Calls.{armed, crashed, risen, risen_under, weighs, downgraded};
+ghost use Rattle.cg_model.specs.Step.{armed, crashed, risen, downgraded};
+ghost use Rattle.cg_world_events.specs.Nodes.{changed, raised, raised_under, weighs};
 ghost use Rattle.cg_world_events.specs.CrashedDisk.{IsCrashedDisk};
 ghost use Rattle.cg_world_events.specs.DiskOut.{HoldsDisk};
 ghost use Rattle.cg_disk.specs.Crashes.{Disarms};
@@ -24,7 +25,7 @@ impl Node {
     /// Arms the device call of this number, from 1 for the next one, to fail once, where the replica is up.
     pub fn fail_at(&mut self, call: u64)
         requires { 1 ≤ call }
-        ensures { self.new ≡ armed self.old.id (record { call = call; fault = FailOnce }) self.old.life }
+        ensures { self.new ≡ changed self.old (armed (record { call = call; fault = FailOnce }) self.old.life) }
     {
         match &mut self.life {
             NodeState::Up { engine, .. } => engine.fail_at(call),
@@ -36,7 +37,7 @@ impl Node {
     /// that weren't synced, where the replica is up.
     pub fn stop_at(&mut self, call: u64, fill: Bytes)
         requires { 1 ≤ call }
-        ensures { self.new ≡ armed self.old.id (record { call = call; fault = StopWith fill }) self.old.life }
+        ensures { self.new ≡ changed self.old (armed (record { call = call; fault = StopWith fill }) self.old.life) }
     {
         match &mut self.life {
             NodeState::Up {
@@ -53,7 +54,7 @@ impl Node {
     /// A crash now, where it is up. `NoMemory` too where its disk has made so many calls that those of a recovery might go
     /// past 2^62.
     pub fn crash(self) -> Result<Node, NoMemory>
-        ensures { IfOk result (λ s. s ≡ crashed self.id self.life) }
+        ensures { IfOk result (λ s. s ≡ changed self (crashed self.life)) }
     {
         match self.into_life() {
             NodeState::Up { engine, fill } => {
@@ -71,7 +72,7 @@ impl Node {
         alloc: Global,
         made: &Cut,
     ) -> Result<(Node, Option<EventEffects>), NoMemory>
-        ensures { IfOk result (λ x. x ≡ risen made.now self.id self.life) }
+        ensures { IfOk result (λ x. x ≡ raised self (risen made.now self.life)) }
     {
         match self.into_life() {
             NodeState::Up { engine, fill } => Ok((Node::up(engine, fill), None)),
@@ -90,8 +91,7 @@ impl Node {
         made: &Cut,
     ) -> Result<(Node, Option<EventEffects>), NoMemory>
         requires { 1 ≤ call }
-        ensures { IfOk result (λ x. x ≡
-            risen_under made.now self.id (record { call = call; fault = StopWith fill.now }) self.life) }
+        ensures { IfOk result (λ x. x ≡ raised_under made.now (record { call = call; fault = StopWith fill.now }) self) }
     {
         match self.into_life() {
             NodeState::Up {
@@ -106,7 +106,7 @@ impl Node {
     /// stands for the same.
     pub fn downgrade(self, alloc: Global) -> Result<Node, NoMemory>
         requires { weighs self.life ≡ false }
-        ensures { IfOk result (λ s. s ≡ downgraded self.id self.life) }
+        ensures { IfOk result (λ s. s ≡ changed self (downgraded self.life)) }
     {
         match self.into_life() {
             NodeState::Up { engine, fill } => Ok(Node::up(engine, fill)),
@@ -132,13 +132,14 @@ impl Node {
     /// nothing armed. Nothing is to be shown of that.
     pub fn from_disk(alloc: Global, disk: ModelDisk, id: ReplicaId) -> Result<Node, NoMemory>
         requires { IsCrashedDisk (⟦<ModelDisk as Disk>⟧.view disk) id }
-        ensures { IfOk result (λ s. s ≡
-            (risen [] id (down_seen (⟦<ModelDisk as Disk>⟧.view) (record {
+        ensures { IfOk result (λ s.
+            let down = down_seen (⟦<ModelDisk as Disk>⟧.view) (record {
               disk = disk;
               id = id;
               count = 0;
               green = [];
-            })).life).0) }
+            }) in
+            s ≡ (raised down (risen [] down.life)).0) }
     {
         let resting = CrashedDisk::new(Wreck::new(alloc, disk, id));
         let (node, news) = Node::down(resting).recover(alloc, &Cut::zero())?;
@@ -150,7 +151,7 @@ impl Node {
 // A crash of an engine between two events.
 fn stop(engine: Engine<ModelDisk>) -> Result<Node, NoMemory>
     ensures { IfOk result (λ s. (fill : List ℕ) →
-        s ≡ crashed engine.store.id (up_seen (⟦<ModelDisk as Disk>⟧.view) engine fill).life) }
+        let up = up_seen (⟦<ModelDisk as Disk>⟧.view) engine fill in s ≡ changed up (crashed up.life)) }
 {
     if engine.calls() > CALLS_BEFORE_CRASH {
         drop(engine);
@@ -166,7 +167,8 @@ fn recover_engine(
     resting: CrashedDisk,
     made: &Cut,
 ) -> Result<(Node, Option<EventEffects>), NoMemory>
-    ensures { IfOk result (λ x. x ≡ risen made.now resting.id (down_seen (⟦<ModelDisk as Disk>⟧.view) resting).life) }
+    ensures { IfOk result (λ x.
+        let down = down_seen (⟦<ModelDisk as Disk>⟧.view) resting in x ≡ raised down (risen made.now down.life)) }
 {
     match Engine::recover(alloc, resting.into_wreck()) {
         Recovered::Running { engine, green } => go_up(engine, green, made),
@@ -188,8 +190,8 @@ fn recover_engine_under(
     made: &Cut,
 ) -> Result<(Node, Option<EventEffects>), NoMemory>
     requires { 1 ≤ call }
-    ensures { IfOk result (λ x. x ≡ risen_under made.now resting.id (record { call = call; fault = StopWith fill.now })
-        (down_seen (⟦<ModelDisk as Disk>⟧.view) resting).life) }
+    ensures { IfOk result (λ x. x ≡ raised_under made.now (record { call = call; fault = StopWith fill.now })
+        (down_seen (⟦<ModelDisk as Disk>⟧.view) resting)) }
 {
     let mut wreck = resting.into_wreck();
     wreck.stop_at(call);

@@ -11,10 +11,10 @@ ghost use Rattle.cg_group.specs.Refusals.{not_up};
 ghost use Rattle.cg_older.specs.Older.{has_weights};
 ghost use Rattle.cg_model.specs.Admission.{takes_part, unknown};
 ghost use Rattle.cg_model.specs.Places.{creates};
-ghost use Rattle.cg_model.specs.World.{NodeState, no_world, running, node_of, disk_at, set_life, has_begun, replica_of, is_left, left_replicas, up_replicas};
+ghost use Rattle.cg_model.specs.World.{NodeState, no_world, running, node_of, disk_at, set_life, bring_down, has_begun, replica_of, is_left, left_replicas, up_replicas};
 ghost use Rattle.cg_model.specs.Show.{line_of};
 ghost use Rattle.cg_model.specs.Touched.{new_lines_of};
-ghost use Rattle.cg_world_events.specs.StepInProgress.{said, hosted, fallen, with_news};
+ghost use Rattle.cg_world_events.specs.StepInProgress.{with_news};
 ghost use Rattle.cg_world_events.specs.DiskOut.{GivesDisk};
 ghost use Rattle.cg_world_events.specs.Hosting.{with_left};
 
@@ -282,14 +282,14 @@ impl WorldState {
 
     // The replica's node is this one.
     pub(crate) fn put(&mut self, node: BoxedNode) -> Result<(), NoMemory>
-        ensures { OnOk result (self.new ≡ hosted self.old node) }
+        ensures { OnOk result (self.new ≡ set_life self.old node.id node.life) }
     {
         self.nodes.put_boxed(node)
     }
 
     // The node of a replica that went down stands; it leaves the group, and its snapshots end.
     pub(crate) fn take_down(&mut self, node: BoxedNode) -> Result<(), NoMemory>
-        ensures { OnOk result (self.new ≡ fallen (hosted self.old node) node.id) }
+        ensures { OnOk result (self.new ≡ bring_down self.old node.id node.life) }
     {
         let id = node.id();
         self.nodes.put_boxed(node)?;
@@ -300,7 +300,7 @@ impl WorldState {
 
     // A replica says these things to its group, one after another.
     pub(crate) fn say(&mut self, p: ReplicaId, sent: Row<EncodedMsg>) -> Result<(), NoMemory>
-        ensures { OnOk result (self.new ≡ said self.old p sent) }
+        ensures { OnOk result (self.new ≡ record self.old { group = send_all self.old.group p sent }) }
     {
         say_all(&mut self.group, p, sent)
     }

@@ -7,13 +7,12 @@ ghost use Rattle.cg_client.specs.Calls.{kind_of};
 ghost use Rattle.cg_model.specs.Recorded.{AreBooked};
 ghost use Rattle.cg_states.specs.ReplicaStep.{Deliveries, Asks};
 ghost use Rattle.cg_model.specs.World.{replica_of};
-ghost use Rattle.cg_model.specs.Step.{quietly, hand, hand_over};
+ghost use Rattle.cg_model.specs.Step.{quietly, taken, comes_back, hand, hand_over};
 ghost use Rattle.cg_model.specs.Standing.{IsHandedBooked, AreBookedInTurn};
 ghost use Rattle.cg_model.specs.Touched.{ShowsNewsOf, new_lines_of};
-ghost use Rattle.cg_world_events.specs.Calls.{taken, IsBookedFor};
+ghost use Rattle.cg_world_events.specs.Nodes.{turned, IsBookedFor};
 ghost use Rattle.cg_world_events.specs.Showing.{shows_after, order_after, made_after};
-ghost use Rattle.cg_world_events.specs.StepInProgress.{comes_back, ended_with};
-ghost use Rattle.cg_model.specs.Show.{ended, tell};
+ghost use Rattle.cg_model.specs.Show.{ended, ended_with, tell};
 
 use crate::made::MadeCut;
 use crate::nodes::BoxedNode;
@@ -157,7 +156,9 @@ impl StepInProgress {
         list: Row<Delivery<EncodedMsg>>,
     ) -> Result<(), NoMemory>
         requires { IsBookedFor node.life (Deliveries list) }
-        ensures { OnOk result (self.new ≡ comes_back self.old (taken node.id (Deliveries list) node.life)) }
+        ensures { OnOk result (
+            let x = turned node (taken (Deliveries list) node.life) in
+            self.new ≡ comes_back self.old x.0.id (x.0.life, x.1)) }
     {
         let (node, spoken) = node.deliver(self.state.alloc(), list)?;
         self.come_back(node, spoken)
@@ -167,7 +168,9 @@ impl StepInProgress {
     fn hand_request(&mut self, node: BoxedNode, request: Request) -> Result<(), NoMemory>
         requires limits { IsKind (kind_of request) }
         requires booked { IsBookedFor node.life (Asks (kind_of request)) }
-        ensures { OnOk result (self.new ≡ comes_back self.old (taken node.id (Asks (kind_of request)) node.life)) }
+        ensures { OnOk result (
+            let x = turned node (taken (Asks (kind_of request)) node.life) in
+            self.new ≡ comes_back self.old x.0.id (x.0.life, x.1)) }
     {
         let (node, spoken) = node.ask(self.state.alloc(), request)?;
         self.come_back(node, spoken)
@@ -175,7 +178,7 @@ impl StepInProgress {
 
     // Its node stands again, and what it has to say is said and shown; or it went down.
     fn come_back(&mut self, node: BoxedNode, spoken: Option<NodeOutput>) -> Result<(), NoMemory>
-        ensures { OnOk result (self.new ≡ comes_back self.old (node, spoken)) }
+        ensures { OnOk result (self.new ≡ comes_back self.old node.id (node.life, spoken)) }
     {
         match spoken {
             Some(spoken) => self.publish_output(node, spoken),
@@ -184,7 +187,7 @@ impl StepInProgress {
     }
 
     fn publish_output(&mut self, node: BoxedNode, spoken: NodeOutput) -> Result<(), NoMemory>
-        ensures { OnOk result (self.new ≡ comes_back self.old (node, Some spoken)) }
+        ensures { OnOk result (self.new ≡ comes_back self.old node.id (node.life, Some spoken)) }
     {
         let p = node.id();
         let (news, sent) = spoken.into_parts();

@@ -2,10 +2,11 @@
 ghost use Rattle.std.specs.Prelude.{◌≡◌, ◌≤◌, [], OnOk};
 ghost use Rattle.cg_disk_records.specs.Crash.{FailOnce, StopWith};
 ghost use Rattle.cg_schedule.specs.declared.event.Event.TheVariants.{Stop, Fail};
-ghost use Rattle.cg_world_events.specs.Calls.{crashed};
-ghost use Rattle.cg_model.specs.Step.{arm, stop};
+ghost use Rattle.cg_model.specs.World.{bring_down};
+ghost use Rattle.cg_model.specs.Step.{arm, crashed, stop};
+ghost use Rattle.cg_world_events.specs.Nodes.{changed};
 ghost use Rattle.cg_world_events.specs.Happening.{Happens};
-ghost use Rattle.cg_world_events.specs.StepInProgress.{IsQuiet, hosted, fallen};
+ghost use Rattle.cg_world_events.specs.StepInProgress.{IsQuiet};
 
 use crate::admission::{admit, takes_part};
 use crate::nodes::BoxedNode;
@@ -59,7 +60,8 @@ fn crash(state: &mut WorldState, p: ReplicaId) -> Result<(), NoMemory>
 }
 
 fn crash_node(state: &mut WorldState, node: BoxedNode) -> Result<(), NoMemory>
-    ensures { OnOk result (state.new ≡ fallen (hosted state.old (crashed node.id node.life)) node.id) }
+    ensures { OnOk result (
+        let down = changed node (crashed node.life) in state.new ≡ bring_down state.old down.id down.life) }
 {
     let node = node.crash(state.alloc())?;
     state.take_down(node)

@@ -8,10 +8,11 @@ ghost use Rattle.cg_client.specs.Calls.{kind_of};
 ghost use Rattle.cg_engine.specs.Inputs.{input_of, HasLimits};
 ghost use Rattle.cg_model.specs.Recorded.{AreBooked};
 ghost use Rattle.cg_states.specs.ReplicaStep.{Deliveries, Asks};
-ghost use Rattle.cg_model.specs.World.{Up};
-ghost use Rattle.cg_world_events.specs.Calls.{begun, taken, IsBookedFor};
+ghost use Rattle.cg_client.specs.Replica.{fresh};
+ghost use Rattle.cg_model.specs.Step.{taken};
+ghost use Rattle.cg_world_events.specs.Nodes.{new_node, turned, IsBookedFor};
 ghost use Rattle.cg_store.specs.Formats.{Standing};
-ghost use Rattle.cg_world_events.specs.Seen.{disk_seen, up_seen, down_seen, FallsTo, fallen, said};
+ghost use Rattle.cg_world_events.specs.Seen.{up_seen, down_seen, FallsTo, fallen, said};
 ghost use Rattle.cg_world_events.specs.declared.limits.TheConstants.{EVENT_CALLS, RECOVERY_CALLS};
 
 use crate::crashed_disk::CrashedDisk;
@@ -34,7 +35,7 @@ use std::alloc::Global;
 impl Node {
     /// A new replica, alone, among these servers, on an empty disk.
     pub fn begin(alloc: Global, id: ReplicaId, servers: &WeightSet) -> Result<Node, NoMemory>
-        ensures { IfOk result (λ s. s ≡ begun servers.now id) }
+        ensures { IfOk result (λ s. s ≡ new_node id (fresh id servers.now)) }
     {
         strikes_end_as_defined();
         match Engine::start(alloc, ModelDisk::new(alloc), id, servers) {
@@ -57,7 +58,7 @@ impl BoxedNode {
         list: Row<Delivery<EncodedMsg>>,
     ) -> Result<(BoxedNode, Option<NodeOutput>), NoMemory>
         requires { IsBookedFor self.life (Deliveries list) }
-        ensures { IfOk result (λ x. x ≡ taken self.id (Deliveries list) self.life) }
+        ensures { IfOk result (λ x. x ≡ turned self (taken (Deliveries list) self.life)) }
     {
         match self.into_inner().into_life() {
             NodeState::Up { engine, fill } => deliver_to(alloc, engine, fill, list),
@@ -76,7 +77,7 @@ impl BoxedNode {
     ) -> Result<(BoxedNode, Option<NodeOutput>), NoMemory>
         requires limits { IsKind (kind_of request) }
         requires booked { IsBookedFor self.life (Asks (kind_of request)) }
-        ensures { IfOk result (λ x. x ≡ taken self.id (Asks (kind_of request)) self.life) }
+        ensures { IfOk result (λ x. x ≡ turned self (taken (Asks (kind_of request)) self.life)) }
     {
         match self.into_inner().into_life() {
             NodeState::Up { engine, fill } => handle_within_limit(
@@ -112,8 +113,8 @@ fn deliver_to(
     list: Row<Delivery<EncodedMsg>>,
 ) -> Result<(BoxedNode, Option<NodeOutput>), NoMemory>
     requires { (book : ActionId → Action) × AreBooked book engine.replica.held (Deliveries list) }
-    ensures { IfOk result (λ x. x ≡ taken
-        engine.store.id (Deliveries list) (Up engine.replica (disk_seen (⟦<ModelDisk as Disk>⟧.view) engine fill))) }
+    ensures { IfOk result (λ x.
+        let up = up_seen (⟦<ModelDisk as Disk>⟧.view) engine fill in x ≡ turned up (taken (Deliveries list) up.life)) }
 {
     messages_are_exact();
     match open_all(alloc, list) {
@@ -135,8 +136,8 @@ fn handle_within_limit(
 ) -> Result<(BoxedNode, Option<NodeOutput>), NoMemory>
     requires limits { HasLimits input }
     requires booked { (book : ActionId → Action) × AreBooked book engine.replica.held (input_of input) }
-    ensures { IfOk result (λ x. x ≡ taken
-        engine.store.id (input_of input) (Up engine.replica (disk_seen (⟦<ModelDisk as Disk>⟧.view) engine fill))) }
+    ensures { IfOk result (λ x.
+        let up = up_seen (⟦<ModelDisk as Disk>⟧.view) engine fill in x ≡ turned up (taken (input_of input) up.life)) }
 {
     if engine.calls() > CALLS_BEFORE_EVENT {
         drop(engine);
@@ -157,8 +158,8 @@ fn handle(
     requires calls { (⟦<ModelDisk as Disk>⟧.view engine.store.disk).time + EVENT_CALLS + RECOVERY_CALLS ≤ COUNT_LIMIT }
     requires limits { HasLimits input }
     requires booked { (book : ActionId → Action) × AreBooked book engine.replica.held (input_of input) }
-    ensures { IfOk result (λ x. x ≡ taken
-        engine.store.id (input_of input) (Up engine.replica (disk_seen (⟦<ModelDisk as Disk>⟧.view) engine fill))) }
+    ensures { IfOk result (λ x.
+        let up = up_seen (⟦<ModelDisk as Disk>⟧.view) engine fill in x ≡ turned up (taken (input_of input) up.life)) }
 {
     events_end_as_defined();
     what_is_held_agrees();

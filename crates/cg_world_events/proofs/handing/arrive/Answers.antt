@@ -1,7 +1,8 @@
 use Rattle.std.proofs.Common.{◌≡◌, ℕ, [], IfOk, sym, ap, subst, ◌∙◌}
 use Rattle.cg_disk.specs.Model.{view_of}
 use Rattle.cg_model.specs.World.{Node}
-use Rattle.cg_world_events.specs.Calls.{risen}
+use Rattle.cg_model.specs.Step.{risen}
+use Rattle.cg_world_events.specs.Nodes.{raised}
 use Rattle.cg_world_events.specs.CrashedDisk.{IsCrashedDisk}
 use Rattle.cg_world_events.specs.Seen.{down_seen}
 use Rattle.cg_world_events.proofs.Arriving.{joined-rests, arrives}
@@ -16,5 +17,5 @@ pub returns : goal.returns
 returns c =
     let disk = c.in_ok-disk.disk in
     subst (λ (x : Node). IfOk c.from_disk.result (λ s. s ≡ x))
-    (ap (λ (n : ℕ). (risen [] n (down_seen view_of (record { disk = disk; id = n; count = 0; green = [] })).life).0) c.joiner-joiner.ensures
+    (ap (λ (n : ℕ). (let down = down_seen view_of (record { disk = disk; id = n; count = 0; green = [] }) in (raised down (risen [] down.life)).0)) c.joiner-joiner.ensures
     ∙ arrives view_of disk c.args.snapshot c.in_ok-disk.ensures.stands) c.from_disk.ensures

@@ -3,7 +3,7 @@ use Rattle.cg_group.specs.State.{is_up}
 use Rattle.cg_model.specs.World.{World}
 use Rattle.cg_model.specs.Show.{StepInProgress}
 use Rattle.cg_model.specs.Step.{transfer}
-use Rattle.cg_world_events.specs.Handing.{Chooses}
+use Rattle.cg_world_events.specs.Choosing.{Chooses}
 use Rattle.cg_world_events.proofs.TransferFacts.{chosen-down, chosen-takes}
 use Rattle.cg_world_events.proofs.handing.hand_pieces.Goals as goal
 

@@ -5,7 +5,8 @@ use Rattle.cg_model.specs.World.{Node}
 use Rattle.cg_engine.specs.Answers.{IsRecovered}
 use Rattle.cg_engine.specs.Engines.{Fallen}
 use Rattle.cg_store.specs.Opening.{IsNoStore}
-use Rattle.cg_world_events.specs.Calls.{risen}
+use Rattle.cg_model.specs.Step.{risen}
+use Rattle.cg_world_events.specs.Nodes.{raised}
 use Rattle.cg_world_events.specs.SeenLaws.{down-seen}
 use Rattle.cg_world_events.proofs.ComingUp.{is_store, unarmed_behind, rises_seen}
 use Rattle.cg_world_events.proofs.rising.recover_engine.Goals as goal
@@ -21,7 +22,7 @@ returns-in-Running c =
     let none = unarmed_behind (view_of w.disk) (view_of e.store.disk) (state_of w.disk) (state_of e.store.disk) refl rests.unarmed is.reached.unstruck refl in
     subst (λ (up : Node × Option EventEffects). IfOk c.go_up.result (λ x. x ≡ up))
     (rises_seen view_of w rests.standing rests.stands e e green is (record { id = refl; unwritten = refl; replica = refl }) refl (state_of e.store.disk) refl none made
-    ∙ sym (ap (λ (n : Node). risen made n.id n.life) (down-seen view_of w rests.standing rests.stands))) c.go_up.ensures
+    ∙ sym (ap (λ (n : Node). raised n (risen made n.life)) (down-seen view_of w rests.standing rests.stands))) c.go_up.ensures
 
 pub unreachable-requires-in-NotAStore : goal.unreachable-requires-in-NotAStore
 unreachable-requires-in-NotAStore c =

@@ -10,7 +10,7 @@ use Rattle.cg_engine.specs.Answers.{IsStill}
 use Rattle.cg_engine.specs.Engines.{Fallen}
 use Rattle.cg_store.specs.Formats.{Standing}
 use Rattle.cg_store.specs.Migrating.{standing_left}
-use Rattle.cg_world_events.specs.Calls.{risen_under}
+use Rattle.cg_world_events.specs.Nodes.{raised_under}
 use Rattle.cg_world_events.specs.Seen.{down_seen, FallsTo, fallen}
 use Rattle.cg_world_events.specs.SeenLaws.{down-seen}
 use Rattle.cg_world_events.proofs.ComingUp.{rises_under, falls_there, stays_under}
@@ -31,7 +31,7 @@ returns-in-Running c =
     let e = c.in-Running.engine in
     subst (λ (up : Node × Option EventEffects). IfOk c.go_up.result (λ x. x ≡ up))
     (rises_under view_of w x n fill arms still rests.standing rests.stands (state_of w.disk) refl e c.disarmed.result c.in-Running.green c.in-Running.ensures c.disarmed.ensures.rest c.disarmed.ensures.disk (state_of e.store.disk) refl made
-    ∙ sym (ap (λ (n : Node). risen_under made n.id strike n.life) (down-seen view_of w rests.standing rests.stands))) c.go_up.ensures
+    ∙ sym (ap (λ (n : Node). raised_under made strike n) (down-seen view_of w rests.standing rests.stands))) c.go_up.ensures
 
 pub stay_down-requires : goal.stay_down-requires
 stay_down-requires c =
@@ -63,5 +63,5 @@ returns-in-Down c =
     let falls = falls_there view_of w x n fill arms still rests.standing rests.stands (state_of w.disk) refl rests.rest y c.in-Down.ensures.0 c.in-Down.ensures.1 (state_of y.disk) refl in
     let stays = stays_under view_of w x n fill arms still rests.standing rests.stands (state_of w.disk) refl rests.rest y c.in-Down.ensures.0 c.in-Down.ensures.1 (state_of y.disk) refl made in
     if_ok_then c.stay_down.result (λ v. (s : Standing) → FallsTo view_of y fill s → v ≡ (fallen y s, None))
-    (λ v. v ≡ risen_under made w.id strike (down_seen view_of w).life)
-    (λ v is. is left falls ∙ stays ∙ sym (ap (λ (n : Node). risen_under made n.id strike n.life) (down-seen view_of w rests.standing rests.stands))) c.stay_down.ensures
+    (λ v. v ≡ raised_under made strike (down_seen view_of w))
+    (λ v is. is left falls ∙ stays ∙ sym (ap (λ (n : Node). raised_under made strike n) (down-seen view_of w rests.standing rests.stands))) c.stay_down.ensures

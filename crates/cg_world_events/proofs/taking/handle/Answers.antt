@@ -4,7 +4,7 @@ use Rattle.cg_engine.specs.Inputs.{input_of}
 use Rattle.cg_states.specs.ReplicaStep.{replica_step}
 use Rattle.cg_engine.specs.FallLaws.{fallen_within}
 use Rattle.cg_model.specs.World.{Node}
-use Rattle.cg_world_events.specs.Calls.{NodeOutput}
+use Rattle.cg_world_events.specs.Nodes.{NodeOutput}
 use Rattle.cg_world_events.proofs.Events.{goes_on, falls_down, fallen_so}
 use Rattle.cg_world_events.proofs.taking.handle.Goals as goal
 

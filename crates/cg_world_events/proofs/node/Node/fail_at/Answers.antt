@@ -3,7 +3,8 @@ use Rattle.cg_disk.specs.Model.{view_of, state_of}
 use Rattle.cg_disk.specs.State.{Fails}
 use Rattle.cg_disk_records.specs.Crash.{FailOnce, Strike}
 use Rattle.cg_model.specs.World.{Node}
-use Rattle.cg_world_events.specs.Calls.{armed}
+use Rattle.cg_model.specs.Step.{armed}
+use Rattle.cg_world_events.specs.Nodes.{changed}
 use Rattle.cg_world_events.specs.Seen.{seen}
 use Rattle.cg_world_events.proofs.Arming.{arms_seen}
 use Rattle.cg_world_events.proofs.node.Node.fail_at.Goals as goal
@@ -12,7 +13,7 @@ use Rattle.cg_world_events.proofs.node.Node.fail_at.Goals.{in-Up, in-Down}
 pub returns : goal.returns
 returns c =
     let strike : Strike = record { call = c.args.call; fault = FailOnce } in
-    let arm : Node → Node = λ s. armed s.id strike s.life in
+    let arm : Node → Node = λ s. changed s (armed strike s.life) in
     elim c.match-self.branch [
       | in-Up w ↦
           ap (λ s. seen s.life) w.self-inside-is
