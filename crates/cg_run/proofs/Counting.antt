@@ -1,5 +1,5 @@
 -- What an item that is counted comes to: it was put and the run goes on, or putting it was cut short.
-use Rattle.std.proofs.Common.{◌≡◌, ℕ, ◌<◌, [], ◌∷◌, None, refl, sym, subst, append-nil}
+use Rattle.std.proofs.Common.{◌≡◌, ℕ, ◌<◌, [], ◌∷◌, None, length, refl, sym, ap, subst, ◌∙◌, append-nil}
 use Rattle.std.proofs.lemmas.Bool.{cond-true, lt-ltb}
 use Rattle.std.specs.Prelude.{nat_lt}
 use Rattle.cg_io.specs.Outside.{SinkView, PutsAll}
@@ -12,6 +12,9 @@ use Rattle.cg_outcome.specs.declared.status.Limit.TheVariants.{Steps}
 use Rattle.cg_outcome.specs.Produced.{Progress, Produced, counted, ended_with}
 use Rattle.cg_outcome.specs.Putting.{Puts, PutsPart}
 use Rattle.cg_outcome.specs.Stopping.{CutShort, Shows, Stopped}
+use Rattle.cg_outcome.specs.UnderWay.{HasBegun}
+use Rattle.cg_run.specs.declared.progress.Run.{Run}
+use Rattle.cg_run.specs.Performing.{seen}
 use Rattle.cg_short.specs.Short.{IsShortEntry}
 
 -- the item alone is made
@@ -49,3 +52,10 @@ pub item-stops : (report : Report) (n : ℕ) (i : Item) (next s : Progress) (v v
     CutShort (item_in report i) v v1 st → Stopped report (counted n i next s) v v1 st
 item-stops report n i next s v v1 st few cut =
     subst (λ (p : Produced). Stopped report p v v1 st) (sym (counted-goes n i next s few)) (cut-alone report i next v v1 st cut)
+
+-- a run that has begun has still begun where only what it counts and keeps is other
+pub begun-counted : (old new : Run) → record new { companion = old.companion; count = old.count; totals = old.totals } ≡ old → HasBegun (seen old) → HasBegun (seen new)
+begun-counted old new rest begun = record {
+  started = ap (λ (r : Run). r.reader.started) rest ∙ begun.started;
+  hosted = subst (λ (r : Run). 0 < length r.world.world.nodes) (sym rest) begun.hosted;
+}

@@ -1,17 +1,17 @@
 -- What a step comes to that the world takes, and how passes and deliveries go on.
-use Rattle.std.proofs.Common.{◌≡◌, ℕ, suc, ◌+◌, ◌-◌, ◌<◌, List, ◌∷◌, Option, refl, sym, ap, arith}
+use Rattle.std.proofs.Common.{◌≡◌, ℕ, suc, ◌+◌, ◌-◌, ◌<◌, List, ◌∷◌, Option, None, refl, sym, ap, arith}
 use Rattle.cg_report.specs.declared.entry.Entry.{Entry}
 use Rattle.cg_schedule.specs.declared.event.Event.{Event}
-use Rattle.cg_world.specs.declared.world.Stepped.TheVariants as answer
-use Rattle.cg_world.specs.SoFar.{SoFar}
-use Rattle.cg_world.specs.Steps.{Steps}
+use Rattle.cg_model.specs.Admission.{first_refusal}
+use Rattle.cg_model.specs.Step.{world_step}
+use Rattle.cg_model.specs.World.{World}
 use Rattle.cg_items.specs.declared.companion.Further.{Further}
 use Rattle.cg_outcome.specs.Produced.{Progress, and_then, stepped, one_step}
 use Rattle.cg_outcome.specs.Rounds.{deliver_ready, deliveries, one_pass, passes}
 
-pub one_step-done : (n : ℕ) (asked : Option Further) (event : Event) (s : Progress) (before after : SoFar) (entry : Entry) → Steps (record before { world = s.world }) event (answer.Done after entry)
-    → one_step n asked event s ≡ stepped n asked event (record { entry = entry; world = after.world }) s
-one_step-done n asked event s before after entry steps = rw steps.0 (ap (λ m. stepped n asked event m s) (sym steps.1))
+pub one_step-done : (n : ℕ) (asked : Option Further) (event : Event) (s : Progress) (after : World) (entry : Entry) → first_refusal s.world event ≡ None
+    → record { entry = entry; world = after } ≡ world_step s.world event → one_step n asked event s ≡ stepped n asked event (record { entry = entry; world = after }) s
+one_step-done n asked event s after entry admitted is = rw admitted (ap (λ m. stepped n asked event m s) (sym is))
 
 pub passes-step : (n count made : ℕ) (s : Progress) → made < count → passes n (count - made) s ≡ and_then (one_pass n s) (passes n (count - (made + 1)))
 passes-step n count made s lt = let e : count - made ≡ suc (count - (made + 1)) = omega arith in rw e

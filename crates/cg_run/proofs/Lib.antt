@@ -1,4 +1,5 @@
 pub mod Asked
+pub mod Closing
 pub mod GoingOn
 pub mod Happening
 pub mod PutImages

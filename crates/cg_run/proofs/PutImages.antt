@@ -7,7 +7,7 @@ use Rattle.cg_image.specs.Images.{image_text}
 use Rattle.cg_io.specs.Outside.{SourceView, SinkView}
 use Rattle.cg_items.specs.declared.companion.Companion.TheVariants.{Imaging}
 use Rattle.cg_items.specs.declared.report.Report.TheVariants.{Imaged}
-use Rattle.cg_model.specs.World.{World, Node, node_disk, node_of, disk_at}
+use Rattle.cg_model.specs.World.{World, Node, node_disk, node_of}
 use Rattle.cg_outcome.specs.declared.status.Status.{Status}
 use Rattle.cg_outcome.specs.declared.status.Status.TheVariants as status
 use Rattle.cg_outcome.specs.declared.command.Command.TheVariants.{Image}
@@ -44,6 +44,10 @@ nothing-put p w v = record {
   is = tt;
   ends = record { front = record { front = []; rest = []; whole = refl; grown = Appends-none v.held }; counted = omega arith };
 }
+
+-- the image of the world that is left is put
+pub put-world : (p : ℕ) (here : World) (v v1 : SinkView) (st : Status) → PutsImage p here v v1 st → (w : World) → Some here ≡ Some w → PutsImage p w v v1 st
+put-world p here v v1 st put w is = subst (λ (w : World). PutsImage p w v v1 st) (let one : Some here ≡ Some w = is in cc) put
 
 -- ---- the command
 

@@ -1,5 +1,5 @@
 -- What a command comes to that replays its input.
-use Rattle.std.proofs.Common.{◌≡◌, ℕ, List, [], ◌++◌, take, Option, Some, None, refl, sym, subst, arith}
+use Rattle.std.proofs.Common.{◌≡◌, ℕ, List, [], ◌++◌, take, Option, Some, None, refl, sym, ap, subst, ◌∙◌, arith}
 use Rattle.cg_io.specs.Outside.{SourceView, SinkView, PutsAll}
 use Rattle.cg_items.specs.declared.companion.Companion.{Companion}
 use Rattle.cg_items.specs.declared.report.Report.{Report}
@@ -13,11 +13,13 @@ use Rattle.cg_outcome.specs.Outcome.{Ending, Open, outcome_of, text_put}
 use Rattle.cg_outcome.specs.Produced.{Produced, text_of, status_of}
 use Rattle.cg_outcome.specs.Putting.{StopsWith}
 use Rattle.cg_outcome.specs.Stopping.{EndsShort}
-use Rattle.cg_outcome.specs.Streaming.{Ends, FailedIsLast, Replays, first_stage, from_stage}
+use Rattle.cg_outcome.specs.Streaming.{Ends, FailedIsLast, Replays, Stage, first_stage, from_stage}
 use Rattle.cg_outcome.specs.TakeLaws.{Consumes-none}
 use Rattle.cg_outcome.specs.Taking.{IsImage, Runs, ReadCause}
 use Rattle.cg_outcome.specs.NearLaws.{Runs-near}
 use Rattle.cg_outcome.specs.SparedLaws.{read-cause}
+use Rattle.cg_run.specs.declared.progress.Run.{Run}
+use Rattle.cg_run.specs.Performing.{seen_stage}
 
 -- memory was refused before anything was taken
 pub Replays-nothing : (report : Report) (c : Companion) (old : SourceView) (v : SinkView) (left : Option World) →
@@ -86,3 +88,14 @@ module _ (command : Command) (report : Report) (c : Companion) (is : IsReplay co
   replay-cause =
       read-cause (Some command) [] r.taken r.ending old new v v' st r.cause
       (subst (λ (p : Produced). FailedIsLast r.ending p) (sym (is.comes r.taken r.ending)) r.holds.3) replay-ends
+
+-- a run that has just begun keeps this beside the world
+pub begins : (run : Run) (c : Companion) → seen_stage run ≡ first_stage c → seen_stage run ≡ first_stage run.companion
+begins run c first = first ∙ ap first_stage (sym (ap (λ (st : Stage). st.progress.companion) first))
+
+-- what it replays is what is replayed with that
+pub replayed-as : (run : Run) (report : Report) (c : Companion) (old new : SourceView) (v v' : SinkView) (left : Option World) (st : Status)
+    → seen_stage run ≡ first_stage c → run.report ≡ report → Replays run.report run.companion old new v v' left st → Replays report c old new v v' left st
+replayed-as run report c old new v v' left st first is r =
+    subst (λ (report : Report). Replays report c old new v v' left st) is
+    (subst (λ (stage : Stage). Replays run.report stage.progress.companion old new v v' left st) first r)

@@ -1,6 +1,7 @@
 pub mod Asking
 pub mod Ending
 pub mod Imaging
+pub mod InPlace
 pub mod Making
 pub mod Next
 pub mod Noting

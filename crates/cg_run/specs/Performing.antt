@@ -1,68 +1,57 @@
 -- How far the code of a run has come, as definitions see it, and what performing a part of a run comes to.
-use Rattle.std.specs.Prelude.{◌≡◌, ℕ, None, Option, Result, Ok, Err, MatchResult, option_map}
+use Rattle.std.specs.Prelude.{◌≡◌, ℕ, None, Result, Ok, Err, MatchResult, Option, Some}
 use Rattle.cg_io.specs.Outside.{SinkView}
 use Rattle.cg_items.specs.declared.report.Report.{Report}
 use Rattle.cg_model.specs.World.{World}
 use Rattle.cg_outcome.specs.declared.status.Status.{Status}
-use Rattle.cg_outcome.specs.Produced.{Progress, Produced, end_in, tail_in}
+use Rattle.cg_outcome.specs.Produced.{Progress, Produced}
 use Rattle.cg_outcome.specs.Streaming.{Stage}
 use Rattle.cg_outcome.specs.Stopping.{Shows, Stopped}
-use Rattle.cg_world.specs.SoFar.{SoFar}
-use Rattle.cg_run.specs.declared.progress.Beside.{Beside}
-use Rattle.cg_run.specs.declared.progress.Progress.{Progress as RunProgress}
-use Rattle.cg_run.specs.declared.progress.Stage.{Stage as RunStage}
+use Rattle.cg_run.specs.declared.progress.Run.{Run}
 
 -- how far a run has come
-abbrev pub seen : RunProgress → Progress
-seen p = record {
-  world = p.world.world;
-  companion = p.beside.value.companion;
-  reader = p.beside.value.reader;
-  count = p.beside.value.count;
-  totals = p.beside.value.totals;
-  logs = p.beside.value.logs;
+abbrev pub seen : Run → Progress
+seen r = record {
+  world = r.world.world;
+  companion = r.companion;
+  reader = r.reader;
+  count = r.count;
+  totals = r.totals;
+  logs = r.logs;
   replica = None;
 }
 
--- the same with this world, and with this beside it
-abbrev pub seen_beside : World → Beside → Progress
-seen_beside w b = record {
-  world = w;
-  companion = b.companion;
-  reader = b.reader;
-  count = b.count;
-  totals = b.totals;
-  logs = b.logs;
-  replica = None;
-}
-
--- the world that is left of a run, where one is
-abbrev pub worlds : Option SoFar → Option World
-worlds left = option_map (λ s. s.world) left
+-- the same from another world
+abbrev pub seen_from : World → Run → Progress
+seen_from w r = record (seen r) { world = w }
 
 -- where it stands between two lines
-abbrev pub seen_stage : RunStage → Stage
-seen_stage st = record { line = st.line; at = st.at; progress = seen st.progress }
+abbrev pub seen_stage : Run → Stage
+seen_stage r = record { line = r.line; at = r.at; progress = seen r }
 
--- the same of a call that goes on or ends the run
-abbrev pub seen_end : Result RunStage Status → Result Stage Status
-seen_end (Ok st) = Ok (seen_stage st)
-seen_end (Err status) = Err status
+-- the same behind a call that goes on or ends the run
+abbrev pub seen_end : Run → {T : Type 0} → Result T Status → Result Stage Status
+seen_end r (Ok done) = Ok (seen_stage r)
+seen_end r (Err status) = Err status
 
--- at an end with this status the report has its tail there
-abbrev pub EndsPlainly : Report → Status → ℕ → Type 0
-EndsPlainly report status lines = (s : Progress) → end_in report status lines s ≡ tail_in report status s.count lines
+-- the world that is left of it
+abbrev pub left_of : Run → Option World
+left_of r = Some r.world.world
 
--- a part of a run was put and the run goes on, or it has ended
-abbrev pub Performs : Report → Produced → SinkView → SinkView → Result RunProgress Status → Type 0
-Performs report p old new result =
-    MatchResult result
-    (λ s. (p.found ≡ None) × (seen s ≡ p.progress) × Shows report old new p.items)
-    (λ status. Stopped report p old new status)
+-- how a run puts its report, and the line that it is at
+pub record Place : Type 0 where
+  pub report : Report
+  pub line : ℕ
+  pub at : ℕ
 
--- the same of a part that only changes what stands beside the world, and has then come this far
-abbrev pub Counts : Report → Produced → SinkView → SinkView → Progress → {T : Type 0} → Result T Status → Type 0
-Counts report p old new s result =
-    MatchResult result
-    (λ _. (p.found ≡ None) × (s ≡ p.progress) × Shows report old new p.items)
-    (λ status. Stopped report p old new status)
+abbrev pub place : Run → Place
+place r = record { report = r.report; line = r.line; at = r.at }
+
+-- a part of a run was put, and the run goes on from where it now is
+abbrev pub Went : Report → Produced → SinkView → SinkView → Run → Type 0
+Went report p old new r = (p.found ≡ None) × (seen r ≡ p.progress) × Shows report old new p.items
+
+-- the same, or it has ended
+abbrev pub Performs : Report → Produced → SinkView → SinkView → Run → {T : Type 0} → Result T Status → Type 0
+Performs report p old new r result =
+    MatchResult result (λ _. Went report p old new r) (λ status. Stopped report p old new status)

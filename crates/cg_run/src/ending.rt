@@ -1,93 +1,81 @@
-ghost use Rattle.std.specs.Prelude.{◌<◌, Some};
+//! A run ends: by what was found in a line, or where its input does.
+ghost use Rattle.std.specs.Prelude.{◌≡◌, ◌<◌};
 ghost use Rattle.cg_base.specs.declared.limits.TheConstants.{COUNT_LIMIT};
 ghost use Rattle.cg_outcome.specs.Outcome.{Ended, at_end};
 ghost use Rattle.cg_outcome.specs.declared.status.Status.TheVariants as status;
-ghost use Rattle.cg_outcome.specs.Produced.{tail_in, ended_with};
-ghost use Rattle.cg_outcome.specs.Putting.{StopsWith};
+ghost use Rattle.cg_outcome.specs.Produced.{ended_with};
 ghost use Rattle.cg_outcome.specs.Stopping.{Leaves, Stopped, IsFinding};
-ghost use Rattle.cg_run.specs.Performing.{seen, worlds, EndsPlainly};
+ghost use Rattle.cg_outcome.specs.Streaming.{IsHeld, IsStage, from_stage};
+ghost use Rattle.cg_run.specs.Performing.{left_of, place, seen, seen_stage};
 
-use crate::progress::{Line, Progress};
+use crate::progress::Run;
 use cg_io::Sink;
 use cg_outcome::{Report, Status, finish, finish_logs};
-use cg_world::World;
 
-/// A run ends behind so many items with what was found, this line being the last one gone through: the tail is put.
-pub fn end_at<K: Sink>(line: Line, output: &mut K, status: Status, count: u64) -> Status
-    requires few_faults { (K.view output.old).faults < COUNT_LIMIT }
-    requires finding { IsFinding status }
-    ensures { StopsWith (tail_in line.report status count line.number) (Some status)
-        (K.view output.old) (K.view output.new) result }
-{
-    finish(line.alloc, output, line.report, status, count, line.number)
-}
-
-/// A run ends with what was found, this line being the last one gone through, and is let go. What was found isn't that
-/// it is done: see `end_done`.
-pub fn end_run<K: Sink>(line: Line, output: &mut K, status: Status, progress: Progress) -> Status
-    requires few_faults { (K.view output.old).faults < COUNT_LIMIT }
-    requires finding { IsFinding status }
-    requires plain { EndsPlainly line.report status line.number }
-    ensures { Stopped line.report (ended_with status line.number (seen progress))
-        (K.view output.old) (K.view output.new) result }
-{
-    let count = progress.beside.count;
-    drop(progress);
-    end_at(line, output, status, count)
-}
-
-// A run is done behind this line. Where the image of a disk is to be put, its world is left.
-fn end_done<K: Sink>(
-    line: Line,
-    output: &mut K,
-    left: &mut Option<World>,
-    progress: Progress,
-) -> Status
-    requires { (K.view output.old).faults < COUNT_LIMIT }
-    ensures stopped { Stopped line.report (ended_with status.Done line.number (seen progress))
-        (K.view output.old) (K.view output.new) result }
-    ensures left { Leaves result line.report (seen progress).world (worlds left.new) }
-{
-    match line.report {
-        Report::Joined => {
-            let status = finish_logs(line.alloc, output, &progress.beside.logs);
-            drop(progress);
-            status
-        }
-        Report::Inspected => {
-            drop(progress);
-            Status::Done
-        }
-        Report::Imaged => {
-            let Progress { world, beside } = progress;
-            drop(beside);
-            *left = Some(world);
-            Status::Done
-        }
-        _ => {
-            let count = progress.beside.count;
-            drop(progress);
-            end_at(line, output, Status::Done, count)
+impl Run {
+    /// It ends with what was found, behind so many lines: what its report has at the end is put.
+    pub fn end<K: Sink>(&self, output: &mut K, status: Status, lines: u64) -> Status
+        requires few_faults { (K.view output.old).faults < COUNT_LIMIT }
+        requires finding { IsFinding status }
+        ensures { Stopped self.now.report (ended_with status lines (seen self.now))
+            (K.view output.old) (K.view output.new) result }
+    {
+        match status {
+            Status::Done => self.end_done(output, lines),
+            _ => finish(self.alloc, output, self.report, status, self.count, lines),
         }
     }
-}
 
-/// Nothing stands behind this line: a run is done there, where its end was read.
-pub fn end_input<K: Sink>(
-    line: Line,
-    output: &mut K,
-    left: &mut Option<World>,
-    progress: Progress,
-) -> Status
-    requires { (K.view output.old).faults < COUNT_LIMIT }
-    ensures stopped { Stopped line.report (at_end line.number Ended (seen progress))
-        (K.view output.old) (K.view output.new) result }
-    ensures left { Leaves result line.report (seen progress).world (worlds left.new) }
-{
-    if progress.beside.reader.state().ended {
-        end_done(line, output, left, progress)
-    } else {
-        let lines = line.number;
-        end_run(line, output, Status::NoEnd { lines }, progress)
+    fn end_done<K: Sink>(&self, output: &mut K, lines: u64) -> Status
+        requires { (K.view output.old).faults < COUNT_LIMIT }
+        ensures { Stopped self.now.report (ended_with status.Done lines (seen self.now))
+            (K.view output.old) (K.view output.new) result }
+    {
+        match self.report {
+            Report::Joined => finish_logs(self.alloc, output, &self.logs),
+            Report::Inspected => Status::Done,
+            Report::Imaged => Status::Done,
+            _ => finish(
+                self.alloc,
+                output,
+                self.report,
+                Status::Done,
+                self.count,
+                lines,
+            ),
+        }
+    }
+
+    /// Nothing stands behind so many lines: it is done there, where its end was read.
+    pub fn end_input<K: Sink>(&self, output: &mut K, lines: u64) -> Status
+        requires { (K.view output.old).faults < COUNT_LIMIT }
+        ensures { Stopped self.now.report (at_end lines Ended (seen self.now))
+            (K.view output.old) (K.view output.new) result }
+    {
+        if self.reader.state().ended {
+            self.end(output, Status::Done, lines)
+        } else {
+            self.end(output, Status::NoEnd { lines }, lines)
+        }
+    }
+
+    /// The input has ended behind these bytes of a line, which pass no limit.
+    pub fn close<K: Sink>(&mut self, output: &mut K, rest: &[u8]) -> Status
+        requires few_faults { (K.view output.old).faults < COUNT_LIMIT }
+        requires stands { IsStage (seen_stage self.old) }
+        requires held { IsHeld (seen_stage self.old) rest.now }
+        ensures stopped { Stopped self.old.report (from_stage (seen_stage self.old) rest.now Ended)
+            (K.view output.old) (K.view output.new) result }
+        ensures left { Leaves result self.old.report
+            (from_stage (seen_stage self.old) rest.now Ended).progress.world (left_of self.new) }
+        ensures placed { place self.new ≡ place self.old }
+    {
+        if rest.is_empty() {
+            return self.end_input(output, self.line - 1);
+        }
+        match self.begin_line(output, rest) {
+            Ok(()) => self.end_input(output, self.line),
+            Err(status) => status,
+        }
     }
 }

@@ -1,21 +1,20 @@
 //! The image of the disk that a replica has at the end of a schedule.
-ghost use Rattle.std.specs.Prelude.{◌≡◌, ◌+◌, ◌<◌, Some, true, is_some};
+ghost use Rattle.std.specs.Prelude.{◌≡◌, ◌+◌, ◌<◌, Some};
 ghost use Rattle.cg_base.specs.Sets.{IsId};
 ghost use Rattle.cg_base.specs.declared.limits.TheConstants.{COUNT_LIMIT};
 ghost use Rattle.cg_disk_records.specs.Crash.{Disk as DiskOf};
 ghost use Rattle.cg_image.specs.Images.{image_text};
-ghost use Rattle.cg_model.specs.World.{World as WorldOf};
 ghost use Rattle.cg_outcome.specs.declared.command.Command.TheVariants.{Image};
 ghost use Rattle.cg_outcome.specs.declared.status.Status.TheVariants as status;
 ghost use Rattle.cg_outcome.specs.Putting.{StopsWith};
 ghost use Rattle.cg_outcome.specs.Status.{write_faults};
 ghost use Rattle.cg_outcome.specs.Taking.{ReadCause, Runs};
 ghost use Rattle.cg_run.specs.Imaging.{PutsImage};
-ghost use Rattle.cg_run.specs.Performing.{worlds};
+ghost use Rattle.cg_run.specs.Performing.{seen};
 ghost use Rattle.cg_world.specs.DiskOut.{HoldsDisk};
 
-use crate::streaming::replay;
-use cg_base::{Bytes, ReplicaId};
+use crate::progress::Run;
+use cg_base::{Bytes, NoMemory, ReplicaId};
 use cg_disk::{Disk, ModelDisk};
 use cg_image::image_bytes;
 use cg_io::{Sink, Source};
@@ -61,15 +60,13 @@ fn put_image<K: Sink>(alloc: Global, output: &mut K, id: ReplicaId, world: World
 }
 
 // The same of the world that is left of a run.
-fn put_left<K: Sink>(alloc: Global, output: &mut K, id: ReplicaId, left: Option<World>) -> Status
+fn put_left<K: Sink>(alloc: Global, output: &mut K, id: ReplicaId, run: Run) -> Status
     requires few_faults { (K.view output.old).faults < COUNT_LIMIT }
-    requires left { is_some left ≡ true }
-    ensures { (w : WorldOf) → worlds left ≡ Some w →
-        PutsImage id w (K.view output.old) (K.view output.new) result }
+    ensures { PutsImage id (seen run).world (K.view output.old) (K.view output.new) result }
 {
-    match left {
-        Some(world) => put_image(alloc, output, id, world),
-        None => unreachable!(),
+    match run.into_world() {
+        Ok(world) => put_image(alloc, output, id, world),
+        Err(NoMemory) => Status::NoMemory,
     }
 }
 
@@ -87,12 +84,13 @@ fn image_schedule<S: Source, K: Sink>(
     ensures read_fault { ReadCause (S.view input.old) (S.view input.new) result }
     ensures write_fault { (K.view output.new).faults ≡ (K.view output.old).faults + write_faults result }
 {
-    let mut left = None;
-    let companion = Companion::Imaging(id);
-    match replay(alloc, input, output, &mut left, Report::Imaged, companion) {
-        Status::Done => put_left(alloc, output, id, left),
+    let Ok(mut run) = Run::new(alloc, Report::Imaged, Companion::Imaging(id)) else {
+        return Status::NoMemory;
+    };
+    match run.replay(input, output) {
+        Status::Done => put_left(alloc, output, id, run),
         other => {
-            drop(left);
+            drop(run);
             other
         }
     }

@@ -24,6 +24,7 @@ mod sessions;
 mod steps;
 mod streaming;
 mod trial;
+mod world_in_place;
 
 pub use cg_outcome::{ArgText, Explained, Limit, Status};
 pub use running::run;

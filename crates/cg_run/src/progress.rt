@@ -1,23 +1,21 @@
-ghost use Rattle.std.specs.Prelude.{◌≡◌, ◌≤◌, ◌-◌, IfOk};
-
 use crate::line_reader::LineReader;
+use crate::world_in_place::WorldInPlace;
 use cg_base::{NoMemory, Row};
 use cg_compare::LogList;
 use cg_outcome::{Companion, Report, Totals};
 use cg_world::World;
 use std::alloc::Global;
 
-/// How far a run has come: the world, and what stands beside it, which is one box, since a run is moved from call to
-/// call.
-#[derive(Drop)]
-pub struct Progress {
-    pub world: World,
-    pub beside: Box<Beside>,
-}
-
-/// What stands beside the world: what the command keeps, the reader of the lines, how many items were made, what they
-/// have shown, and the logs that were read.
-pub struct Beside {
+/// A run under way: where memory comes from, and how much of the report is put; the number of the line that is performed,
+/// or of the next one, and where it begins in the input; and how far the run has come, which is the world, what the
+/// command keeps beside it, the reader of the lines, how many items were made, what they have shown, and the logs that
+/// were read. Behind a call that has ended it, it is of no more use.
+pub struct Run {
+    pub alloc: Global,
+    pub report: Report,
+    pub line: u64,
+    pub at: usize,
+    pub world: WorldInPlace,
     pub companion: Companion,
     pub reader: LineReader,
     pub count: u64,
@@ -25,9 +23,14 @@ pub struct Beside {
     pub logs: LogList,
 }
 
-impl Drop for Beside {
+impl Drop for Run {
     fn drop(self) {
-        let Beside {
+        let Run {
+            alloc: _,
+            report: _,
+            line: _,
+            at: _,
+            world: _,
             companion: _,
             reader: _,
             count: _,
@@ -37,72 +40,47 @@ impl Drop for Beside {
     }
 }
 
-impl Progress {
-    ghost use Rattle.cg_outcome.specs.Produced.{before_all};
-    ghost use Rattle.cg_run.specs.Performing.{seen};
+impl Run {
+    ghost use Rattle.std.specs.Prelude.{◌≡◌, IfOk};
+    ghost use Rattle.cg_outcome.specs.Streaming.{first_stage};
+    ghost use Rattle.cg_run.specs.Performing.{seen, seen_stage};
 
     /// Before the first line, with this beside the world.
-    pub fn new(alloc: Global, companion: Companion) -> Result<Progress, NoMemory>
-        ensures { IfOk result (λ progress. seen progress ≡ before_all companion) }
+    pub fn new(alloc: Global, report: Report, companion: Companion) -> Result<Run, NoMemory>
+        ensures first { IfOk result (λ run. seen_stage run ≡ first_stage companion) }
+        ensures report { IfOk result (λ run. run.report ≡ report) }
     {
-        let beside = Beside {
+        let world = WorldInPlace::new(alloc)?;
+        Ok(Run {
+            alloc,
+            report,
+            line: 1,
+            at: 0,
+            world,
             companion,
             reader: LineReader::new(),
             count: 0,
             totals: Totals::none(),
             logs: Row::new(alloc),
-        };
-        let beside = Box::new(alloc, beside)?;
-        let world = World::new(alloc)?;
-        Ok(Progress { world, beside })
-    }
-}
-
-/// What stays as it is while a line is performed: where memory comes from, how much of the report is put, and the
-/// line's number.
-#[derive(Clone, Copy)]
-pub struct Line {
-    pub alloc: Global,
-    pub report: Report,
-    pub number: u64,
-}
-
-impl Line {
-    /// The line above it.
-    pub fn above(self) -> Line
-        requires { 1 ≤ self.number }
-        ensures { result ≡ record self { number = self.number - 1 } }
-    {
-        Line {
-            alloc: self.alloc,
-            report: self.report,
-            number: self.number - 1,
-        }
-    }
-}
-
-/// Where a run stands between two lines: the number of the next line, where it begins in the input, and how far the run
-/// has come.
-#[derive(Drop)]
-pub struct Stage {
-    pub line: u64,
-    pub at: usize,
-    pub progress: Progress,
-}
-
-impl Stage {
-    ghost use Rattle.cg_outcome.specs.Streaming.{first_stage};
-    ghost use Rattle.cg_run.specs.Performing.{seen_stage};
-
-    /// Before the first line, with this beside the world.
-    pub fn first(alloc: Global, companion: Companion) -> Result<Stage, NoMemory>
-        ensures { IfOk result (λ stage. seen_stage stage ≡ first_stage companion) }
-    {
-        let progress = Progress::new(alloc, companion)?;
-        Ok(Stage {
-            line: 1,
-            at: 0,
-            progress,
         })
+    }
+
+    /// The world at its end.
+    pub fn into_world(self) -> Result<World, NoMemory>
+        ensures { IfOk result (λ world. world.world ≡ (seen self).world) }
+    {
+        let Run {
+            alloc: _,
+            report: _,
+            line: _,
+            at: _,
+            world,
+            companion: _,
+            reader: _,
+            count: _,
+            totals: _,
+            logs: _,
+        } = self;
+        world.into_world()
     }
 }
