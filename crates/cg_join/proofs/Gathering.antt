@@ -17,7 +17,7 @@ use Rattle.cg_client.specs.Replica.{Held}
 use Rattle.cg_disk_records.specs.Agreeing.{counts_up}
 use Rattle.cg_store.specs.Leading.{LeadTo}
 use Rattle.cg_join.specs.declared.gather.Gathered.{Gathered}
-use Rattle.cg_join.specs.declared.piece.Head.{Head}
+use Rattle.cg_join.specs.declared.piece.SnapshotHead.{SnapshotHead}
 use Rattle.cg_join.specs.declared.piece.PieceContent.{PieceContent}
 use Rattle.cg_join.specs.declared.piece.PieceContent.TheVariants.{Start, Green, Entry, End}
 use Rattle.cg_join.specs.Gathered.{nothing, with_part, IsGathered}
@@ -81,15 +81,15 @@ all_brought h up =
     ∙ entries_brought second h.db
     ∙ ap (λ d. record second { db = d }) (all_put [] h.db up)
 
-some_head : Head → Option Head
+some_head : SnapshotHead → Option SnapshotHead
 some_head x = Some x
 
-same_head : (x y : Head) → some_head x ≡ some_head y → x ≡ y
+same_head : (x y : SnapshotHead) → some_head x ≡ some_head y → x ≡ y
 unfolding some_head
 same_head x y e = cc
 
 -- what they make of a joiner
-pub joined_by : (id : ℕ) (h : Held) (g : Gathered) (head : Head) → g ≡ brought h → g.head ≡ Some head → joined_from id head g.greens g.db ≡ joiner_content id h
+pub joined_by : (id : ℕ) (h : Held) (g : Gathered) (head : SnapshotHead) → g ≡ brought h → g.head ≡ Some head → joined_from id head g.greens g.db ≡ joiner_content id h
 unfolding some_head
 joined_by id h g head is first =
     let same : head ≡ head_of h = same_head head (head_of h) (sym first ∙ ap (λ (x : Gathered). x.head) is) in
@@ -103,12 +103,12 @@ module _ (id : ℕ) (parts : List PieceContent) (from : IsSnapshotFor id parts) 
   pub never-headless : g.head ≡ None → ⊥
   never-headless none = none-some (head_of from.source) (sym none ∙ ap (λ (x : Gathered). x.head) all-of-it)
 
-  pub brought-lead : (head : Head) → g.head ≡ Some head → LeadTo head.reached.cut g.greens
+  pub brought-lead : (head : SnapshotHead) → g.head ≡ Some head → LeadTo head.reached.cut g.greens
   unfolding some_head
   brought-lead head first =
       let same : head ≡ head_of from.source = same_head head (head_of from.source) (sym first ∙ ap (λ (x : Gathered). x.head) all-of-it) in
       let lead : LeadTo from.source.queue.green_cut from.source.queue.greens = λ p one. (and_parts _ _ (each-replica (counts_up (joined_queue from.source.queue)) p from.agrees.each one)).0 in
-      subst (λ (x : Head). LeadTo x.reached.cut g.greens) (sym same)
+      subst (λ (x : SnapshotHead). LeadTo x.reached.cut g.greens) (sym same)
       (subst (λ greens. LeadTo from.source.queue.green_cut greens) (sym (ap (λ (x : Gathered). x.greens) all-of-it)) lead)
 
 -- ---- limits

@@ -26,7 +26,7 @@ use Rattle.cg_disk_records.specs.Reading.{entry_reading, reached_reading}
 use Rattle.cg_disk_records.specs.Laws.{Gives}
 use Rattle.cg_join.specs.declared.name.SnapshotName.{SnapshotName}
 use Rattle.cg_join.specs.declared.piece.Label.{Label}
-use Rattle.cg_join.specs.declared.piece.Head.{Head}
+use Rattle.cg_join.specs.declared.piece.SnapshotHead.{SnapshotHead}
 use Rattle.cg_join.specs.declared.piece.PieceContent.{PieceContent}
 use Rattle.cg_join.specs.declared.piece.PieceContent.TheVariants.{Start, Green, Entry, End}
 use Rattle.cg_join.specs.declared.piece.Piece.{Piece}
@@ -58,7 +58,7 @@ label_field =
 
 -- ---- what parts bring
 
-abbrev head_is : Primary → ℕ → Reached → Head
+abbrev head_is : Primary → ℕ → Reached → SnapshotHead
 head_is prim attempt_index reached = record { prim = prim; attempt_index = attempt_index; reached = reached }
 
 -- ---- the tags, and what is behind them
@@ -113,7 +113,7 @@ module _ (action_field : IsField IsAction spelled_action action_reading) (entry_
   start_field =
       variant_of_one Start IsHead spelled_head head_reading (Brings 1) part_behind head_field (λ head h. ((h, refl), refl)) parts
     where
-      parts : (p : PieceContent) → Brings 1 p → (head : Head) × IsHead head × (Start head ≡ p)
+      parts : (p : PieceContent) → Brings 1 p → (head : SnapshotHead) × IsHead head × (Start head ≡ p)
       parts (Start head) has = (head, has.0, refl)
       parts (Green action) has = absurd (omega arith)
       parts (Entry entry) has = absurd (omega arith)

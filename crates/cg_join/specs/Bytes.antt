@@ -6,7 +6,7 @@ use Rattle.cg_records.specs.Bytes.{spelled_prim}
 use Rattle.cg_disk_records.specs.Checkpoint.{spelled_entry, spelled_reached}
 use Rattle.cg_join.specs.declared.name.SnapshotName.{SnapshotName}
 use Rattle.cg_join.specs.declared.piece.Label.{Label}
-use Rattle.cg_join.specs.declared.piece.Head.{Head}
+use Rattle.cg_join.specs.declared.piece.SnapshotHead.{SnapshotHead}
 use Rattle.cg_join.specs.declared.piece.PieceContent.{PieceContent}
 use Rattle.cg_join.specs.declared.piece.PieceContent.TheVariants.{Start, Green, Entry, End}
 use Rattle.cg_join.specs.declared.piece.Piece.{Piece}
@@ -18,7 +18,7 @@ unfoldable pub spelled_label : Label → List ℕ
 spelled_label label = spelled_snapshot_name label.name ++ (number64 label.number ++ number64 label.count)
 
 -- the last primary component, the attempt index, and how far the greens reach
-unfoldable pub spelled_head : Head → List ℕ
+unfoldable pub spelled_head : SnapshotHead → List ℕ
 spelled_head head = spelled_prim head.prim ++ (number64 head.attempt_index ++ spelled_reached head.reached)
 
 -- a tag, and what the part brings

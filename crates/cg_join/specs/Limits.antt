@@ -6,7 +6,7 @@ use Rattle.cg_records.specs.Limits.{IsNumber, IsPrimary}
 use Rattle.cg_disk_records.specs.Limits.{IsReached}
 use Rattle.cg_join.specs.declared.name.SnapshotName.{SnapshotName}
 use Rattle.cg_join.specs.declared.piece.Label.{Label}
-use Rattle.cg_join.specs.declared.piece.Head.{Head}
+use Rattle.cg_join.specs.declared.piece.SnapshotHead.{SnapshotHead}
 use Rattle.cg_join.specs.declared.piece.PieceContent.{PieceContent}
 use Rattle.cg_join.specs.declared.piece.PieceContent.TheVariants.{Start, Green, Entry, End}
 use Rattle.cg_join.specs.declared.piece.Piece.{Piece}
@@ -20,7 +20,7 @@ pub record IsLabel (label : Label) : Type 0 where
   pub number : IsNumber label.number
   pub count : IsNumber label.count
 
-pub record IsHead (head : Head) : Type 0 where
+pub record IsHead (head : SnapshotHead) : Type 0 where
   pub prim : IsPrimary head.prim
   pub attempt_index : IsNumber head.attempt_index
   pub reached : IsReached head.reached

@@ -6,7 +6,7 @@ use Rattle.cg_records.specs.Reading.{take_number, take_id_above, take_prim}
 use Rattle.cg_disk_records.specs.Reading.{entry_reading, reached_reading}
 use Rattle.cg_join.specs.declared.name.SnapshotName.{SnapshotName}
 use Rattle.cg_join.specs.declared.piece.Label.{Label}
-use Rattle.cg_join.specs.declared.piece.Head.{Head}
+use Rattle.cg_join.specs.declared.piece.SnapshotHead.{SnapshotHead}
 use Rattle.cg_join.specs.declared.piece.PieceContent.{PieceContent}
 use Rattle.cg_join.specs.declared.piece.PieceContent.TheVariants.{Start, Green, Entry, End}
 use Rattle.cg_join.specs.declared.piece.Piece.{Piece}
@@ -24,7 +24,7 @@ label_reading = do
   count ← take_number
   done (record { name = name; number = number; count = count })
 
-unfoldable pub head_reading : Reading Head
+unfoldable pub head_reading : Reading SnapshotHead
 head_reading = do
   prim ← take_prim
   attempt_index ← take_number

@@ -6,13 +6,13 @@ use Rattle.cg_action.specs.declared.entry.DbEntry.{DbEntry}
 use Rattle.cg_client.specs.Replica.{Held}
 use Rattle.cg_disk_records.specs.Checkpoint.{reached_of}
 use Rattle.cg_join.specs.declared.name.SnapshotName.{SnapshotName}
-use Rattle.cg_join.specs.declared.piece.Head.{Head}
+use Rattle.cg_join.specs.declared.piece.SnapshotHead.{SnapshotHead}
 use Rattle.cg_join.specs.declared.piece.PieceContent.{PieceContent}
 use Rattle.cg_join.specs.declared.piece.PieceContent.TheVariants.{Start, Green, Entry, End}
 use Rattle.cg_join.specs.declared.piece.Piece.{Piece}
 use Rattle.cg_join.specs.Bytes.{spelled_piece}
 
-abbrev pub head_of : Held → Head
+abbrev pub head_of : Held → SnapshotHead
 head_of h = record { prim = h.prim; attempt_index = h.attempt_index; reached = reached_of h }
 
 -- the head, the kept greens in their order, the entries ascending, the end
@@ -41,7 +41,7 @@ bytes_at s n = option_map (λ part. spelled_piece (piece_at s n part)) (slice_ge
 -- ---- the replica that joins
 
 -- what a joiner holds, of what the parts bring
-abbrev pub joined_from : ℕ → Head → List Action → List DbEntry → Held
+abbrev pub joined_from : ℕ → SnapshotHead → List Action → List DbEntry → Held
 joined_from id head greens db =
     record {
       id = id;

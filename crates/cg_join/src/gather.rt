@@ -4,7 +4,7 @@ ghost use Rattle.cg_base.specs.Lists.{Each};
 ghost use Rattle.cg_join.specs.Limits.{IsPart};
 ghost use Rattle.cg_join.specs.Gathered.{with_part, nothing, IsGathered};
 
-use crate::{Head, PieceContent};
+use crate::{PieceContent, SnapshotHead};
 use cg_action::{ActionList, Boxed};
 use cg_base::{NoMemory, Row};
 use cg_db::Db;
@@ -13,7 +13,7 @@ use std::alloc::Global;
 /// The head, if there was one, the greens in their order, and the entries.
 #[derive(Drop)]
 pub(crate) struct Gathered {
-    pub(crate) head: Option<Boxed<Head>>,
+    pub(crate) head: Option<Boxed<SnapshotHead>>,
     pub(crate) greens: ActionList,
     pub(crate) db: Db,
 }

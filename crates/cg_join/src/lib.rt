@@ -24,6 +24,6 @@ pub use handing::hand_pieces;
 pub use joiner::Joiner;
 pub use laws::{joiners_agree, pieces_are_exact, snapshots_are_counted, snapshots_are_taken};
 pub use name::SnapshotName;
-pub use piece::{Head, Label, Piece, PieceContent};
+pub use piece::{Label, Piece, PieceContent, SnapshotHead};
 pub use reading::decode_piece;
 pub use snapshot::SnapshotWriter;

@@ -13,7 +13,7 @@ pub struct Label {
 
 /// What a replica has green and knows of primary components, but for the kept actions and the entries.
 #[derive(Drop)]
-pub struct Head {
+pub struct SnapshotHead {
     pub prim: Primary,
     pub attempt_index: u64,
     pub reached: Reached,
@@ -22,7 +22,7 @@ pub struct Head {
 /// What a piece brings. Most parts are entries, so that what is larger has a place of its own.
 #[derive(Drop)]
 pub enum PieceContent {
-    Start(Boxed<Head>),
+    Start(Boxed<SnapshotHead>),
     /// The next kept green action.
     Green(Boxed<Action>),
     /// The next entry of the database.

@@ -5,7 +5,7 @@ ghost use Rattle.cg_codec.specs.Taking.{unread_of, Takes, TakesWithMemory, Decod
 ghost use Rattle.cg_join.specs.Reading.{name_reading, label_reading, head_reading, start_reading, green_reading, entry_part_reading, part_of_tag, part_reading, piece_reading};
 ghost use Rattle.cg_join.specs.Laws.{GivesPiece};
 
-use crate::{Head, Label, Piece, PieceContent, SnapshotName, pieces_are_exact};
+use crate::{Label, Piece, PieceContent, SnapshotHead, SnapshotName, pieces_are_exact};
 use cg_action::{Boxed, DbEntry, take_action};
 use cg_codec::{CodecFault, Fields};
 use cg_disk_records::{take_entry, take_reached};
@@ -124,7 +124,7 @@ fn take_entry_part(alloc: Global, f: &mut Fields<'_>) -> Result<PieceContent, Co
 }
 
 #[tactic(auto, unfolding(crate::specs::Reading::head_reading))]
-fn take_head(f: &mut Fields<'_>) -> Result<Head, CodecFault>
+fn take_head(f: &mut Fields<'_>) -> Result<SnapshotHead, CodecFault>
     ensures { TakesWithMemory (λ h. h) head_reading (unread_of f.old) (unread_of f.new) result }
 {
     let mut after = *f;
@@ -132,7 +132,7 @@ fn take_head(f: &mut Fields<'_>) -> Result<Head, CodecFault>
     let attempt_index = take_number(&mut after)?;
     let reached = take_reached(&mut after)?;
     *f = after;
-    Ok(Head {
+    Ok(SnapshotHead {
         prim,
         attempt_index,
         reached,

@@ -12,7 +12,7 @@ ghost use Rattle.cg_client.specs.Joined.{joiner_content};
 ghost use Rattle.cg_join.specs.Snapshot.{parts_of, joined_from};
 
 use crate::gather::{Gathered, gather};
-use crate::{Head, PieceContent};
+use crate::{PieceContent, SnapshotHead};
 use cg_action::{ActionList, Boxed, Limited};
 use cg_base::{NoMemory, ReplicaId};
 use cg_client::Core;
@@ -40,7 +40,7 @@ pub(crate) fn core_of(
 fn rebuild(
     alloc: Global,
     id: ReplicaId,
-    head: Boxed<Head>,
+    head: Boxed<SnapshotHead>,
     greens: ActionList,
     db: Db,
 ) -> Result<Core, NoMemory>

@@ -10,7 +10,7 @@ ghost use Rattle.cg_join.specs.Limits.{IsHead, IsPiece};
 ghost use Rattle.cg_join.specs.Snapshot.{head_of, parts_of, with_green_part, with_entry_part, piece_at, bytes_at};
 
 use crate::writing::encode;
-use crate::{Head, Label, PieceContent, SnapshotName};
+use crate::{Label, PieceContent, SnapshotHead, SnapshotName};
 use cg_action::{ActionList, Boxed, EntryList, Limited};
 use cg_base::{Bytes, NoMemory};
 use cg_client::Core;
@@ -101,14 +101,14 @@ impl SnapshotWriter {
     }
 }
 
-fn head_of(core: &Core) -> Head
+fn head_of(core: &Core) -> SnapshotHead
     ensures value { result ≡ head_of core.now }
     ensures limits { IsHead result }
 {
     let queue = core.queue();
     let members = core.members();
     members.holds();
-    Head {
+    SnapshotHead {
         prim: core.prim(),
         attempt_index: core.attempt_index(),
         reached: Reached {

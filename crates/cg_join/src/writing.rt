@@ -4,7 +4,7 @@ ghost use Rattle.std.specs.Prelude.{◌≡◌, ◌++◌, OnOk, IfOk};
 ghost use Rattle.cg_join.specs.Bytes.{spelled_label, spelled_head, spelled_part, piece_bytes};
 ghost use Rattle.cg_join.specs.Limits.{IsHead, IsPart};
 
-use crate::{Head, Label, PieceContent};
+use crate::{Label, PieceContent, SnapshotHead};
 use cg_action::put_action;
 use cg_base::{Bytes, NoMemory};
 use cg_codec::{put_u8, put_u64};
@@ -59,7 +59,7 @@ fn write_part(out: &mut Vec<u8>, part: &PieceContent) -> Result<(), NoMemory>
 }
 
 #[tactic(auto, unfolding(crate::specs::Bytes::spelled_head))]
-fn write_head(out: &mut Vec<u8>, head: &Head) -> Result<(), NoMemory>
+fn write_head(out: &mut Vec<u8>, head: &SnapshotHead) -> Result<(), NoMemory>
     requires { IsHead head.now }
     ensures { OnOk result (out.new.items ≡ out.old.items ++ spelled_head head.now) }
 {
