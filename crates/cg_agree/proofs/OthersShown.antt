@@ -3,7 +3,7 @@ use Rattle.cg_states.specs.ReplicaStep.{Input, Deliveries, Asks, replica_step, a
 use Rattle.cg_model.specs.FactsBooks.{AreShown, HoldsFine, IsActionShown, IsMessageShown, IsNameShown, LifeShown, NodeShown}
 use Rattle.cg_model.specs.Step.{hand, hand_over}
 use Rattle.cg_model.specs.AtNode.{after_event, hand_to}
-use Rattle.cg_agree_lemmas.specs.TurnRows.{OfDelivery, of-deliveries}
+use Rattle.cg_agree_lemmas.specs.TurnRows.{of-deliveries}
 use Rattle.cg_agree_lemmas.specs.BookedRows.{AllFine, fine-rule}
 use Rattle.cg_client.specs.Turn.{Turn, begin, with_held}
 use Rattle.std.proofs.Common.{◌≡◌, ◌++◌, ◌∷◌, ◌≤◌, ◌∙◌, ◌-◌, ◌+◌, Bool, List, None, Option, Some, arith, cond, drop, false, fold, inl, inr, length, map, refl, subst, suc, sym, true, zero, ℕ, []}

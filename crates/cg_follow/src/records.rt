@@ -27,6 +27,7 @@ pub(crate) fn follower_record(alloc: Global, cursor: u64, db: &Db) -> Result<Vec
     ensures within { OnOk result (IsDatabase db.now) }
     ensures short { IfOk result (λ bytes. length bytes.items < LIST_LIMIT) }
 {
+    db.holds();
     if db.count() >= LIST_LIMIT as u64 {
         return Err(NoMemory);
     }

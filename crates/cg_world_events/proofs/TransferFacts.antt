@@ -22,6 +22,7 @@ use Rattle.cg_model.specs.AdmissionCalls.{begun_already}
 use Rattle.cg_model.specs.Step.{quietly, snapshot_for, without_snapshot, takes, transfer}
 use Rattle.cg_world_events.specs.Grounds.{IsHosted}
 use Rattle.cg_world_events.specs.Choosing.{Chooses}
+use Rattle.cg_group.specs.RefusalLaws.{refuse_none}
 
 -- ---- one is taken out
 

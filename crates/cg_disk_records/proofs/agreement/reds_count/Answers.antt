@@ -32,7 +32,7 @@ loop-a-preserved c =
     let below : index_in at a.id.creator < index_in to a.id.creator = omega (arith, c.if-last-get.false, c.get-last.ensures, c.get.ensures) in
     let next : a.id.index ≡ index_in at a.id.creator + 1 = c.if-index-last.false ∙ ap (λ n. n + 1) c.get-last.ensures in
     ap (λ cut. list_all (reds_count (drop (c.loop-a.a-index + 1) c.args.reds.now) cut to) every_replica) c.raise.ensures
-    ∙ reds-left a at to c.args.reds.now c.loop-a.a-index c.loop-a-test.true (sym c.a-item.is) c.holds-2.ensures below next
+    ∙ reds-left a at to c.args.reds.now c.loop-a.a-index c.loop-a-test.true (sym c.a-item.is) c.holds-in-loop-a.ensures below next
     ∙ c.loop-a.invariant
 
 pub returns : goal.returns
