@@ -1,26 +1,25 @@
 -- The items of a list in bytes, read and put in one after another, as a loop does; and the parts of a change.
-use Rattle.std.proofs.Common.{◌≡◌, ◌≢◌, ℕ, zero, suc, ◌+◌, ◌-◌, ◌≤◌, ◌<◌, List, [], ◌∷◌, ◌++◌, Bool, true, false, Option, Some, None, Result, Ok, Err, IfOk, refl, sym, ap, subst, ◌∙◌, cond, length}
-use Rattle.std.proofs.lemmas.List.{nil_from_length}
-use Rattle.std.proofs.lemmas.Bool.{eqb-true}
-use Rattle.std.specs.Prelude.{◌==◌, ◌^◌, option_and_then}
-use Rattle.cg_base.specs.declared.action_id.ActionId.{ActionId}
-use Rattle.cg_action.specs.declared.action.Action.{Action}
+use Rattle.std.proofs.Common.{◌≡◌, ◌≢◌, ℕ, zero, suc, ◌+◌, ◌-◌, ◌≤◌, ◌<◌, List, [], ◌∷◌, ◌++◌, Bool, true, false, Option, Some, None, Result, Ok, Err, IfOk, refl, sym, ap, subst, ◌∙◌}
+use Rattle.std.specs.Prelude.{◌^◌, option_and_then}
 use Rattle.cg_codec.specs.declared.fault.CodecFault.{CodecFault}
-use Rattle.cg_codec.specs.declared.fault.CodecFault.TheVariants.{Rest, NoMemory}
-use Rattle.cg_codec.specs.Reading.{Unread, Reading, go_on, take_items, take_count, ended, whole}
+use Rattle.cg_codec.specs.declared.fault.CodecFault.TheVariants.{NoMemory}
+use Rattle.cg_codec.specs.Reading.{Unread, Reading, go_on, take_items, take_count, whole}
 use Rattle.cg_codec.specs.Laws.{AreBytes, IsField}
 use Rattle.cg_codec.specs.Taking.{TakesWithMemory}
-use Rattle.cg_codec.specs.FieldLaws.{go_on-ok}
-use Rattle.cg_codec.specs.ItemLaws.{items_go_on, items_stop_unless, items_end}
+use Rattle.cg_codec.specs.FieldLaws.{go_on-ok, ended-ok}
+use Rattle.cg_codec.specs.ItemLaws.{items_go_on, items_stop, items_end}
 use Rattle.cg_records.specs.declared.stable.Stable.{Stable}
 use Rattle.cg_records.specs.Reading.{take_stable}
-use Rattle.cg_action.specs.Reading.{action_reading, id_reading}
+use Rattle.cg_client.specs.Replica.{Held}
 use Rattle.cg_disk_records.specs.Stored.{Stored}
 use Rattle.cg_disk_records.specs.declared.change.Change.{Change}
 use Rattle.cg_disk_records.specs.Following.{know, green_by_name, make, all_of, with_values, after_change, change_with}
 use Rattle.cg_disk_records.specs.Parts.{read_value, change_in}
 use Rattle.cg_disk_records.specs.Reading.{actions_reading, ids_reading, change_reading}
-use Rattle.cg_store.specs.Putting.{PutsAll}
+use Rattle.cg_store.specs.declared.replay.ChangeList.{ChangeList}
+use Rattle.cg_store.specs.declared.replay.ChangeList.TheVariants.{Known, Green, Made}
+use Rattle.cg_store.specs.Opening.{Follows}
+use Rattle.cg_store.specs.Putting.{item_reading, list_reading, item_step, PutsNext, PutsAll}
 use Rattle.cg_store.specs.Stands.{led_by}
 use Rattle.cg_store.proofs.Replaying.{unknown_none, ungreen_none, unmade_none, all_marked, all_fit}
 
@@ -65,36 +64,49 @@ module _ {A : Type 0} (item : Reading A) (go : Stored → A → Option Stored) (
       (g.0 ++ x ∷ [], items_go_on (λ _. item) count i g.0 left after x _ lt one g.1, all_of-behind go (Some s) g.0 (x ∷ []) ∙ ap (λ o. all_of go o (x ∷ [])) g.2 ∙ fits)
 
   module _ (reading : Reading (List A)) (old start : Unread) (count : ℕ) (counted : reading old ≡ take_items (λ _. item) count [] start) where
-    pub misfits : (i : ℕ) (left after : Unread) (t new : Stored) (end : Unread) (x : A) → i < count → item left ≡ Ok (x, after) → go t x ≡ None → Goes count start i left t → PutsAll reading go s old new end false
-    misfits i left after t new end x lt one none g list rest is =
-        none-leads (count - (i + 1)) (g.0 ++ x ∷ []) after list rest (all_of-behind go (Some s) g.0 (x ∷ []) ∙ ap (λ o. all_of go o (x ∷ [])) g.2 ∙ none)
-        (items_go_on (λ _. item) count i g.0 left after x _ lt one g.1 ∙ sym counted ∙ is)
-
-    pub stops-at : (i : ℕ) (left : Unread) (t new : Stored) (end : Unread) (fault : CodecFault) → i < count → (fault ≢ NoMemory → item left ≡ Err fault) → Goes count start i left t → fault ≢ NoMemory → PutsAll reading go s old new end false
-    stops-at i left t new end fault lt one g known list rest is =
-        let none : reading old ≡ Err fault = counted ∙ items_stop_unless (λ _. item) count i g.0 left fault _ lt one g.1 known in
-        absurd cc
+    pub stops : (i : ℕ) (left after : Unread) (t u new : Stored) (end : Unread) → i < count → PutsNext item go t left u after false → Goes count start i left t → PutsAll reading go s old new end false
+    stops i left after t u new end lt none g list rest is = at (item left) refl where
+      at : (found : Result (A × Unread) CodecFault) → item left ≡ found → all_of go (Some s) list ≡ None
+      at (Ok y) one =
+          none-leads (count - (i + 1)) (g.0 ++ y.0 ∷ []) y.1 list rest (all_of-behind go (Some s) g.0 (y.0 ∷ []) ∙ ap (λ o. all_of go o (y.0 ∷ [])) g.2 ∙ none y.0 y.1 one)
+          (items_go_on (λ _. item) count i g.0 left y.1 y.0 _ lt one g.1 ∙ sym counted ∙ is)
+      at (Err fault) one =
+          let no : reading old ≡ Err fault = counted ∙ items_stop (λ _. item) count i g.0 left fault _ lt one g.1 in
+          absurd cc
 
     pub ends : (i : ℕ) (left : Unread) (t : Stored) → count ≤ i → Goes count start i left t → PutsAll reading go s old t left true
     ends i left t le g = (g.0, counted ∙ items_end (λ _. item) count i g.0 left _ le g.1, g.2)
 
 -- what a list is read as, behind its number
-pub actions-counted : (old start : Unread) (count : ℕ) → take_count (2 ^ 32 - 1) old ≡ Ok (count, start) → actions_reading old ≡ take_items (λ _. action_reading) count [] start
-unfolding actions_reading
-actions-counted old start count is = rw is refl
-
-pub ids-counted : (old start : Unread) (count : ℕ) → take_count (2 ^ 32 - 1) old ≡ Ok (count, start) → ids_reading old ≡ take_items (λ _. id_reading) count [] start
-unfolding ids_reading
-ids-counted old start count is = rw is refl
+pub list-counted : (list : ChangeList) (old start : Unread) (count : ℕ) → take_count (2 ^ 32 - 1) old ≡ Ok (count, start) → list_reading list old ≡ take_items (λ _. item_reading list) count [] start
+unfolding actions_reading ids_reading
+list-counted Known old start count is = rw is refl
+list-counted Green old start count is = rw is refl
+list-counted Made old start count is = rw is refl
 
 -- where the number is at fault no list is read
-pub actions-faulty : (go : Stored → Action → Option Stored) (s : Stored) (old : Unread) (t : Stored) (new : Unread) (fault : CodecFault) → take_count (2 ^ 32 - 1) old ≡ Err fault → PutsAll actions_reading go s old t new false
-unfolding actions_reading
-actions-faulty go s old t new fault is list rest read = absurd (let none : actions_reading old ≡ Err fault = rw is refl in never none read)
+pub list-faulty : (list : ChangeList) (s : Stored) (old : Unread) (t : Stored) (new : Unread) (fault : CodecFault) → take_count (2 ^ 32 - 1) old ≡ Err fault → PutsAll (list_reading list) (item_step list) s old t new false
+unfolding actions_reading ids_reading
+list-faulty Known s old t new fault is list rest read = absurd (let none : actions_reading old ≡ Err fault = rw is refl in never none read)
+list-faulty Green s old t new fault is list rest read = absurd (let none : ids_reading old ≡ Err fault = rw is refl in never none read)
+list-faulty Made s old t new fault is list rest read = absurd (let none : actions_reading old ≡ Err fault = rw is refl in never none read)
 
-pub ids-faulty : (go : Stored → ActionId → Option Stored) (s : Stored) (old : Unread) (t : Stored) (new : Unread) (fault : CodecFault) → take_count (2 ^ 32 - 1) old ≡ Err fault → PutsAll ids_reading go s old t new false
-unfolding ids_reading
-ids-faulty go s old t new fault is list rest read = absurd (let none : ids_reading old ≡ Err fault = rw is refl in never none read)
+-- ---- one item
+
+-- one reading gives one thing
+behind-is : {X : Type 0} {r : Result (X × Unread) CodecFault} {x y : X} {u v : Unread} → r ≡ Ok (x, u) → r ≡ Ok (y, v) → (x ≡ y) × (u ≡ v)
+behind-is {x = x} {y = y} {u = u} {v = v} p q = let same : (x, u) ≡ (y, v) = ok-is (x, u) (y, v) (sym p ∙ q) in (ap (λ z. z.0) same, ap (λ z. z.1) same)
+
+-- it was read, and what it makes is told
+pub next-put : {A : Type 0} (item : Reading A) (go : Stored → A → Option Stored) (s : Stored) (old new : Unread) (x : A) (t : Held) (E : Type 0) (r : Result Bool E) → item old ≡ Ok (x, new) → IfOk r (Follows (go s x) t)
+    → IfOk r (PutsNext item go s old t new)
+next-put item go s old new x t E (Ok true) read is = (x, read, is)
+next-put item go s old new x t E (Ok false) read is = λ y rest also. ap (go s) (sym (behind-is read also).0) ∙ is
+next-put item go s old new x t E (Err e) read is = tt
+
+-- it was not read
+pub next-faulty : {A : Type 0} (item : Reading A) (go : Stored → A → Option Stored) (s : Stored) (old new : Unread) (t : Held) (fault : CodecFault) → item old ≡ Err fault → PutsNext item go s old t new false
+next-faulty item go s old new t fault none = λ x rest is. absurd (never none is)
 
 -- ---- the parts of a change
 
@@ -118,21 +130,10 @@ value-is : {Y : Type 0} (r : Result Y CodecFault) (y : Y) → read_value r ≡ S
 value-is (Ok x) y is = let same : x ≡ y = cc in ap Ok same
 value-is (Err fault) y is = absurd cc
 
-ended-is : {Y : Type 0} (r : Result (Y × Unread) CodecFault) (y : Y) → ended r ≡ Ok y → (left : Unread) × (r ≡ Ok (y, left)) × (left.bytes ≡ [])
-ended-is {Y = Y} (Ok p) y e =
-    let g = last (length p.1.bytes == 0) p.0 y p.1.at e in
-    let made : Y × Unread = (y, p.1) in
-    (p.1, ap gives (rw (← g.1) refl), nil_from_length p.1.bytes (eqb-true _ _ g.0))
-  where
-    last : (b : Bool) (x z : Y) (at : ℕ) → cond b (Ok x) (Err (Rest at)) ≡ Ok z → (b ≡ true) × (x ≡ z)
-    last true x z at f = (refl, cc)
-    last false x z at f = absurd cc
-ended-is (Err fault) y e = absurd cc
-
 read-in : (body : List ℕ) (c : Change) → change_in body ≡ Some c → IsReadIn body c
 unfolding change_in change_reading
 read-in body c is =
-    let all = ended-is (change_reading (at_first body)) c (value-is (whole change_reading body) c is) in
+    let all = ended-ok (change_reading (at_first body)) c (value-is (whole change_reading body) c is) in
     let a = go_on-ok (take_stable (at_first body)) _ c all.0 all.1 in
     let b = go_on-ok (actions_reading a.1) _ c all.0 a.3 in
     let d = go_on-ok (ids_reading b.1) _ c all.0 b.3 in
@@ -157,10 +158,6 @@ taken-within field old new (Ok x) fits taken = (field.found x old new fits taken
 taken-within field old new (Err fault) fits taken = tt
 
 -- ---- what a record leads to, as far as it was put in
-
--- one reading gives one thing
-behind-is : {X : Type 0} {r : Result (X × Unread) CodecFault} {x y : X} {u v : Unread} → r ≡ Ok (x, u) → r ≡ Ok (y, v) → (x ≡ y) × (u ≡ v)
-behind-is {x = x} {y = y} {u = u} {v = v} p q = let same : (x, u) ≡ (y, v) = ok-is (x, u) (y, v) (sym p ∙ q) in (ap (λ z. z.0) same, ap (λ z. z.1) same)
 
 module _ (h : Stored) (body : List ℕ) (start : Unread) (first : start ≡ at_first body) where
   pub unread : (fault : CodecFault) → take_stable start ≡ Err fault → led_by h body ≡ None

@@ -8,14 +8,13 @@ ghost use Rattle.cg_client.specs.Marks.{is_first};
 ghost use Rattle.cg_client.specs.Calls.{IsLineGreen};
 ghost use Rattle.cg_queue.specs.Queue.{names_of};
 ghost use Rattle.cg_codec.specs.Taking.{unread_of, TakesWithMemory};
-ghost use Rattle.cg_action.specs.Reading.{action_reading};
+ghost use Rattle.cg_action.specs.Reading.{action_reading, id_reading};
 ghost use Rattle.cg_codec.specs.declared.fault.CodecFault.TheVariants.{NoMemory as OutOfMemory};
 ghost use Rattle.cg_disk_records.specs.Following.{fits_known, know, green_by_name, make, are_yellow, put_values, with_values};
-ghost use Rattle.cg_disk_records.specs.Reading.{actions_reading, ids_reading};
 ghost use Rattle.cg_disk_records.specs.Holds.{Holds};
 ghost use Rattle.cg_store.specs.Stands.{led_by};
 ghost use Rattle.cg_store.specs.Opening.{Follows};
-ghost use Rattle.cg_store.specs.Putting.{PutsAll};
+ghost use Rattle.cg_store.specs.Putting.{item_reading, list_reading, item_step, PutsAll, PutsNext};
 ghost use Rattle.cg_store.specs.Repeating.{IsRecent};
 
 use crate::last_values::LastValues;
@@ -48,13 +47,13 @@ pub(crate) fn follow<'a>(
         Ok(fields) => fields,
         Err(fault) => return refused(fault),
     };
-    if !know_all(alloc, core, &mut fields)? {
+    if !put_all(ChangeList::Known, alloc, core, &mut fields)? {
         return Ok(false);
     }
-    if !turn_all(core, &mut fields)? {
+    if !put_all(ChangeList::Green, alloc, core, &mut fields)? {
         return Ok(false);
     }
-    if !make_all(alloc, core, &mut fields)? {
+    if !put_all(ChangeList::Made, alloc, core, &mut fields)? {
         return Ok(false);
     }
     match fields.finish() {
@@ -73,6 +72,55 @@ fn refused(fault: CodecFault) -> Result<bool, NoMemory>
     }
 }
 
+/// The lists of a change.
+#[derive(Clone, Copy)]
+pub(crate) enum ChangeList {
+    /// Actions that are red now.
+    Known,
+    /// Names of red actions that are green now.
+    Green,
+    /// Actions of the replica itself.
+    Made,
+}
+
+// Each item of this list is put in as it is read.
+fn put_all(
+    list: ChangeList,
+    alloc: Global,
+    core: &mut Core,
+    fields: &mut Fields<'_>,
+) -> Result<bool, NoMemory>
+    ensures { IfOk result (PutsAll (list_reading list) (item_step list) core.old (unread_of fields.old)
+        core.new (unread_of fields.new)) }
+{
+    let count = match fields.take_count(u32::MAX) {
+        Ok(count) => count,
+        Err(fault) => return refused(fault),
+    };
+    for _ in 0..count {
+        if !put_next(list, alloc, core, fields)? {
+            return Ok(false);
+        }
+    }
+    Ok(true)
+}
+
+fn put_next(
+    list: ChangeList,
+    alloc: Global,
+    core: &mut Core,
+    fields: &mut Fields<'_>,
+) -> Result<bool, NoMemory>
+    ensures { IfOk result (PutsNext (item_reading list) (item_step list) core.old (unread_of fields.old)
+        core.new (unread_of fields.new)) }
+{
+    match list {
+        ChangeList::Known => know_next(alloc, core, fields),
+        ChangeList::Green => turn_next(core, fields),
+        ChangeList::Made => make_next(alloc, core, fields),
+    }
+}
+
 // an action that is read is within the limits
 fn take_one(alloc: Global, fields: &mut Fields<'_>) -> Result<Action, CodecFault>
     ensures read { TakesWithMemory (λ a. a) action_reading (unread_of fields.old) (unread_of fields.new) result }
@@ -83,24 +131,14 @@ fn take_one(alloc: Global, fields: &mut Fields<'_>) -> Result<Action, CodecFault
     take_action(alloc, fields)
 }
 
-fn know_all(alloc: Global, core: &mut Core, fields: &mut Fields<'_>) -> Result<bool, NoMemory>
-    ensures { IfOk result (PutsAll actions_reading know core.old (unread_of fields.old)
+fn know_next(alloc: Global, core: &mut Core, fields: &mut Fields<'_>) -> Result<bool, NoMemory>
+    ensures { IfOk result (PutsNext action_reading know core.old (unread_of fields.old)
         core.new (unread_of fields.new)) }
 {
-    let count = match fields.take_count(u32::MAX) {
-        Ok(count) => count,
-        Err(fault) => return refused(fault),
-    };
-    for _ in 0..count {
-        let a = match take_one(alloc, fields) {
-            Ok(a) => a,
-            Err(fault) => return refused(fault),
-        };
-        if !know_one(core, a)? {
-            return Ok(false);
-        }
+    match take_one(alloc, fields) {
+        Ok(a) => know_one(core, a),
+        Err(fault) => refused(fault),
     }
-    Ok(true)
 }
 
 fn know_one(core: &mut Core, a: Action) -> Result<bool, NoMemory>
@@ -131,24 +169,14 @@ fn is_first_own(core: &Core, id: &ActionId) -> bool
     }
 }
 
-fn turn_all(core: &mut Core, fields: &mut Fields<'_>) -> Result<bool, NoMemory>
-    ensures { IfOk result (PutsAll ids_reading green_by_name core.old (unread_of fields.old)
+fn turn_next(core: &mut Core, fields: &mut Fields<'_>) -> Result<bool, NoMemory>
+    ensures { IfOk result (PutsNext id_reading green_by_name core.old (unread_of fields.old)
         core.new (unread_of fields.new)) }
 {
-    let count = match fields.take_count(u32::MAX) {
-        Ok(count) => count,
-        Err(fault) => return refused(fault),
-    };
-    for _ in 0..count {
-        let id = match take_action_id(fields) {
-            Ok(id) => id,
-            Err(fault) => return refused(fault),
-        };
-        if !turn_one(core, id)? {
-            return Ok(false);
-        }
+    match take_action_id(fields) {
+        Ok(id) => turn_one(core, id),
+        Err(fault) => refused(fault),
     }
-    Ok(true)
 }
 
 fn turn_one(core: &mut Core, id: ActionId) -> Result<bool, NoMemory>
@@ -165,24 +193,14 @@ fn turn_one(core: &mut Core, id: ActionId) -> Result<bool, NoMemory>
     Ok(true)
 }
 
-fn make_all(alloc: Global, core: &mut Core, fields: &mut Fields<'_>) -> Result<bool, NoMemory>
-    ensures { IfOk result (PutsAll actions_reading make core.old (unread_of fields.old)
+fn make_next(alloc: Global, core: &mut Core, fields: &mut Fields<'_>) -> Result<bool, NoMemory>
+    ensures { IfOk result (PutsNext action_reading make core.old (unread_of fields.old)
         core.new (unread_of fields.new)) }
 {
-    let count = match fields.take_count(u32::MAX) {
-        Ok(count) => count,
-        Err(fault) => return refused(fault),
-    };
-    for _ in 0..count {
-        let a = match take_one(alloc, fields) {
-            Ok(a) => a,
-            Err(fault) => return refused(fault),
-        };
-        if !make_one(core, a)? {
-            return Ok(false);
-        }
+    match take_one(alloc, fields) {
+        Ok(a) => make_one(core, a),
+        Err(fault) => refused(fault),
     }
-    Ok(true)
 }
 
 fn make_one(core: &mut Core, a: Action) -> Result<bool, NoMemory>

@@ -1,0 +1,14 @@
+use Rattle.cg_codec.specs.Taking.{unread_of}
+use Rattle.cg_action.specs.Reading.{action_reading}
+use Rattle.cg_disk_records.specs.Following.{know}
+use Rattle.cg_store.specs.Putting.{PutsNext}
+use Rattle.cg_store.proofs.Putting.{refused-puts, next-put, next-faulty}
+use Rattle.cg_store.proofs.replay.know_next.Goals as goal
+
+pub returns-in-Ok : goal.returns-in-Ok
+returns-in-Ok c = next-put action_reading know c.args.core.now (unread_of c.args.fields.now) (unread_of c.take_one.new.fields) c.in-Ok.a c.know_one.new.core _ c.know_one.result c.in-Ok.ensures.read c.know_one.ensures
+
+pub returns-in-Err : goal.returns-in-Err
+returns-in-Err c =
+    refused-puts (PutsNext action_reading know c.args.core.now (unread_of c.args.fields.now) c.args.core.now (unread_of c.take_one.new.fields)) _ c.refused.result c.in-Err.fault c.refused.ensures
+    (λ known. next-faulty action_reading know c.args.core.now (unread_of c.args.fields.now) (unread_of c.take_one.new.fields) c.args.core.now c.in-Err.fault (c.in-Err.ensures.read.0 known))
