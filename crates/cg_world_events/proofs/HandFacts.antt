@@ -27,6 +27,14 @@ find-passes p (x ∷ nodes) s e = elim (cases_Bool (x.id == p)) [
 
 -- ---- a node is taken out
 
+pub any_taken : (result : Option Node) (w : World) (after : List Node) (p : ℕ) →
+    MatchOption result ((find (λ s. s.id == p) w.nodes ≡ None) × (after ≡ w.nodes))
+    (λ s. (find (λ t. t.id == p) w.nodes ≡ Some s) × ((t : Node) → t.id ≡ p → with_node after t ≡ with_node w.nodes t)) →
+    MatchOption result ((node_of w p ≡ None) × (record w { nodes = after } ≡ w))
+    (λ s. (node_of w p ≡ Some s) × ((life : NodeState) → set_life (record w { nodes = after }) p life ≡ set_life w p life))
+any_taken None w after p h = (h.0, ap (λ nodes. record w { nodes = nodes }) h.1)
+any_taken (Some s) w after p h = (h.0, λ life. ap (λ nodes. record w { nodes = nodes }) (h.1 (record { id = p; life = life }) refl))
+
 -- that of a replica that is up
 pub up_taken : (result : Option Node) (w : World) (after : List Node) (p : ℕ) → is_some (replica_of w p) ≡ true →
     MatchOption result ((find (λ s. s.id == p) w.nodes ≡ None) × (after ≡ w.nodes))

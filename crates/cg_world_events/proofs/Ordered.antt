@@ -2,8 +2,7 @@
 use Rattle.std.proofs.Common.{◌≡◌, ℕ, zero, suc, ◌+◌, ◌≤◌, ◌<◌, nat_lt, List, [], ◌∷◌, length, get_or, refl, ap, ◌∙◌, inl, inr, arith}
 use Rattle.std.specs.List.{insert}
 use Rattle.std.proofs.lemmas.Bool.{cond-true, cond-false, cases_Bool, ltb-true, ltb-false, lt-ltb, le-ltb}
-use Rattle.cg_base.specs.declared.action_id.ActionId.{ActionId}
-use Rattle.cg_model.specs.Show.{Answered, answered_from, with_answered}
+use Rattle.cg_model.specs.Show.{Answered, with_answered}
 use Rattle.cg_world_events.specs.Showing.{StartsFrom, Ascend}
 
 next-ascends : (xs : List Answered) → Ascend xs → (k : ℕ) (d : Answered) → suc k < length xs → (get_or xs k d).place ≤ (get_or xs (suc k) d).place
@@ -44,7 +43,3 @@ ascend-with (r ∷ xs) new ascends = elim (cases_Bool (nat_lt new.place r.place)
   | inl before ↦ (rw before (let lt = ltb-true new.place r.place before in omega (arith, lt), ascends))
   | inr behind ↦ (rw behind (starts-with r.place xs new ascends.0 (ltb-false new.place r.place behind), ascend-with xs new ascends.1))
 ]
-
-pub none-left : (n : ℕ) (ids : List ActionId) → answered_from n ids [] ≡ []
-none-left n [] = refl
-none-left n (id ∷ ids) = refl

@@ -1,18 +1,15 @@
 -- A replica's node is struck, or comes up from its disk: the node is taken out, and what stands again is what the definitions make of it.
-use Rattle.std.proofs.Common.{◌≡◌, ℕ, Bool, true, false, List, [], ◌∷◌, Option, Some, None, Result, Ok, Err, IfOk, OnOk, IfSome, is_some, not, filter, find, fold, option_and_then, option_map, refl, sym, ap, subst, ◌∙◌, eqb-true, inl, inr}
+use Rattle.std.proofs.Common.{◌≡◌, ℕ, Bool, true, false, List, [], ◌∷◌, Option, Some, None, Result, Ok, Err, OnOk, IfSome, is_some, not, filter, find, fold, option_and_then, option_map, refl, sym, ap, subst, ◌∙◌, eqb-true, inl, inr}
 use Rattle.std.specs.Prelude.{◌==◌, if◌then◌else◌}
 use Rattle.std.specs.Option.{option_map_or}
 use Rattle.std.proofs.lemmas.Bool.{cases_Bool, cond-true, cond-false}
-use Rattle.cg_base.specs.declared.action_id.ActionId.{ActionId}
 use Rattle.cg_action.specs.declared.action.Action.{Action}
 use Rattle.cg_queue.specs.Queue.{Marking, Marks, Gaps, marked_red}
 use Rattle.cg_queue.specs.declared.mark.Mark.TheVariants.{Placed, Known}
 use Rattle.cg_group.specs.State.{is_up}
-use Rattle.cg_group.specs.Refusals.{refuse}
-use Rattle.cg_group.specs.declared.reason.Reason.{Reason}
 use Rattle.cg_group.specs.declared.reason.Reason.TheVariants.{Weighted}
 use Rattle.cg_group.specs.Events.{come_up, go_down}
-use Rattle.cg_client.specs.Replica.{Replica, NonPrim}
+use Rattle.cg_client.specs.Replica.{NonPrim}
 use Rattle.cg_client.specs.Turn.{Turn, begin}
 use Rattle.cg_client.specs.Marks.{marked}
 use Rattle.cg_client.specs.Summary.{redden, forget_own, own_to_red}
@@ -23,12 +20,13 @@ use Rattle.cg_older.specs.Older.{has_weights}
 use Rattle.cg_model.specs.Admission.{is_weighted}
 use Rattle.cg_model.specs.World.{NodeState, Up, Down, Node, World, running, node_of, at_node, node_disk, disk_at, replica_of, with_node, set_life, bring_down}
 use Rattle.cg_model.specs.Looks.{on_disk}
-use Rattle.cg_model.specs.Show.{StepInProgress, EventEffects, news_of_recovery, tell}
+use Rattle.cg_model.specs.Show.{StepInProgress, news_of_recovery, tell}
 use Rattle.cg_model.specs.Step.{quietly, armed, crashed, stop, risen, recover, stays_down, recover_under, downgraded}
 use Rattle.cg_model.specs.AtNode.{comes_up}
 use Rattle.cg_world_events.specs.Nodes.{node, changed, raised, raised_under, weighs}
 use Rattle.cg_world_events.specs.Grounds.{IsHosted}
-use Rattle.cg_world_events.specs.Striking.{back_with, telling}
+use Rattle.cg_world_events.specs.Striking.{put_back}
+use Rattle.cg_group.specs.RefusalLaws.{refuse_none}
 
 -- whose a found node is
 pub found-id : (nodes : List Node) (p : ℕ) (s : Node) → find (λ s. s.id == p) nodes ≡ Some s → s.id ≡ p
@@ -91,45 +89,26 @@ recovered-id : (disk : Disk) → (recovered disk).held.id ≡ disk.content.id
 unfolding recover_stored own_to_red
 recovered-id disk = reddened-id (forget_own (begin (record { held = disk.content; state = NonPrim false }))) disk.content.own
 
--- ---- whose the node is that stands again
-
-pub raised-id : (s : Node) (up : Option (Replica × Disk × EventEffects)) → (raised s up).0.id ≡ s.id
-raised-id s None = refl
-raised-id s (Some up) = refl
-
-pub raised_under-id : (made : List ActionId) (strike : Strike) (s : Node) → (raised_under made strike s).0.id ≡ s.id
-raised_under-id made strike s = at (stays_down strike s.life) where
-  at : (o : Option NodeState) → (option_map_or (λ life. (node s.id life, None)) o (raised s (risen made s.life))).0.id ≡ s.id
-  at None = raised-id s (risen made s.life)
-  at (Some life) = refl
-
 -- ---- it comes up in the group too
 
 -- the group doesn't have the replica as up
 pub down-outside : (w : World) (p : ℕ) (s : Node) → IsHosted w → node_of w p ≡ Some s → is_some (replica_of w p) ≡ false → is_up w.group s.id ≡ false
 down-outside w p s is there down = ap (is_up w.group) (found-id w.nodes p s there) ∙ sym (is.up p) ∙ down
 
-module _ (w : World) (nodes : List Node) (p : ℕ) (s : Node) (is : IsHosted w) (there : node_of w p ≡ Some s) (down : is_some (replica_of w p) ≡ false)
-    (again : (t : Node) → t.id ≡ p → with_node nodes t ≡ with_node w.nodes t) where
-  abbrev pub taken_out : World
-  taken_out = record w { nodes = nodes }
-
+module _ (w after : World) (p : ℕ) (s : Node) (is : IsHosted w) (there : node_of w p ≡ Some s) (down : is_some (replica_of w p) ≡ false)
+    (same : (life : NodeState) → set_life after p life ≡ set_life w p life) where
   -- the replica of a name is up with this life, and in the group
   abbrev up_as : ℕ → NodeState → World
   up_as n life = let up = set_life w n life in record up { group = come_up w.group n }
 
-  abbrev stands_again : Node × Option EventEffects → StepInProgress
-  stands_again back = telling (back_with taken_out back) back.1
-
   risen-down : (life : NodeState) → is_some (running life) ≡ false → (on_disk life).id ≡ p →
-      stands_again (raised (node p life) (risen w.made life)) ≡ option_map_or (comes_up w) (risen w.made life) (quietly w)
+      put_back after (raised (node p life) (risen after.made life)) ≡ option_map_or (comes_up w) (risen w.made life) (quietly w)
   risen-down (Up r disk) down own = absurd (let clash : true ≡ false = down in cc)
   risen-down (Down disk green) down own =
       let r = recovered disk in
       let life = Up r (disk_recovered disk) in
-      let news = news_of_recovery w.made r.held green in
-      ap (λ list. tell (quietly (record w { nodes = list; group = come_up w.group p })) news) (again (record { id = p; life = life }) refl)
-      ∙ ap (λ n. tell (quietly (up_as n life)) news) (sym (recovered-id disk ∙ own))
+      ap (λ (v : World). tell (quietly (record v { group = come_up v.group p })) (news_of_recovery v.made r.held green)) (same life)
+      ∙ ap (λ n. tell (quietly (up_as n life)) (news_of_recovery w.made r.held green)) (sym (recovered-id disk ∙ own))
 
   own : (on_disk s.life).id ≡ p
   own = subst (λ o. IfSome (option_map (λ (s : Node). on_disk s.life) o) (λ h. h.id ≡ p)) there (is.disk p)
@@ -137,51 +116,62 @@ module _ (w : World) (nodes : List Node) (p : ℕ) (s : Node) (is : IsHosted w) 
   low : is_some (running s.life) ≡ false
   low = subst (λ o. is_some (option_and_then (λ (s : Node). running s.life) o) ≡ false) there down
 
-  recover-down : stands_again (raised s (risen w.made s.life)) ≡ recover w p
+  pub recover-down : put_back after (raised s (risen after.made s.life)) ≡ recover w p
   recover-down =
-      ap (λ n. stands_again (raised (node n s.life) (risen w.made s.life))) (found-id w.nodes p s there)
+      ap (λ n. put_back after (raised (node n s.life) (risen after.made s.life))) (found-id w.nodes p s there)
       ∙ risen-down s.life low own
       ∙ sym (ap (λ o. option_map_or (λ (s : Node). option_map_or (comes_up w) (risen w.made s.life) (quietly w)) o (quietly w)) there)
-
-  -- and so it does where memory isn't refused
-  pub back-done : (back : Node × Option EventEffects) (g : StepInProgress) → stands_again back ≡ g → {E : Type 0} (result : Result (Option EventEffects) E) (after : World) →
-      IfOk result (λ news. (after ≡ back_with taken_out back) × (news ≡ back.1)) → IfOk result (λ news. telling after news ≡ g)
-  back-done back g is (Ok news) after done = ap (λ x. telling x news) done.0 ∙ ap (telling (back_with taken_out back)) done.1 ∙ is
-  back-done back g is (Err e) after done = tt
-
-  pub recover-done : {E : Type 0} (result : Result (Option EventEffects) E) (after : World) →
-      (let back = raised s (risen w.made s.life) in IfOk result (λ news. (after ≡ back_with taken_out back) × (news ≡ back.1))) → IfOk result (λ news. telling after news ≡ recover w p)
-  recover-done result after done = back-done (raised s (risen w.made s.life)) (recover w p) recover-down result after done
 
   -- ---- with a stop that is armed
 
   risen-under : (strike : Strike) (life : NodeState) → is_some (running life) ≡ false → (on_disk life).id ≡ p →
-      stands_again (raised_under w.made strike (node p life))
+      put_back after (raised_under after.made strike (node p life))
       ≡ option_map_or (λ life. quietly (set_life w p life)) (stays_down strike life) (option_map_or (comes_up w) (risen w.made life) (quietly w))
   risen-under strike (Up r disk) down own = absurd (let clash : true ≡ false = down in cc)
   risen-under strike (Down disk green) down own = at (is_reached disk strike) where
     left : NodeState
     left = Down (recovery_outcome disk strike) green
 
-    rises : Option (Replica × Disk × EventEffects)
-    rises = risen w.made (Down disk green)
-
     at : (b : Bool) → (let stays : Option NodeState = if b then Some left else None in
-        stands_again (option_map_or (λ life. (node p life, None)) stays (raised (node p (Down disk green)) rises))
-        ≡ option_map_or (λ life. quietly (set_life w p life)) stays (option_map_or (comes_up w) rises (quietly w)))
-    at true = ap (λ list. quietly (record w { nodes = list })) (again (record { id = p; life = left }) refl)
+        put_back after (option_map_or (λ life. (node p life, None)) stays (raised (node p (Down disk green)) (risen after.made (Down disk green))))
+        ≡ option_map_or (λ life. quietly (set_life w p life)) stays (option_map_or (comes_up w) (risen w.made (Down disk green)) (quietly w)))
+    at true = ap quietly (same left)
     at false = risen-down (Down disk green) down own
 
-  under-down : (strike : Strike) → stands_again (raised_under w.made strike s) ≡ recover_under w p strike
+  pub under-down : (strike : Strike) → put_back after (raised_under after.made strike s) ≡ recover_under w p strike
   under-down strike =
-      ap (λ n. stands_again (raised_under w.made strike (node n s.life))) (found-id w.nodes p s there)
+      ap (λ n. put_back after (raised_under after.made strike (node n s.life))) (found-id w.nodes p s there)
       ∙ risen-under strike s.life low own
       ∙ sym (ap (λ o. option_map_or (λ (s : Node). option_map_or (λ life. quietly (set_life w p life)) (stays_down strike s.life)
       (option_map_or (λ (s : Node). option_map_or (comes_up w) (risen w.made s.life) (quietly w)) o (quietly w))) o (option_map_or (λ (s : Node). option_map_or (comes_up w) (risen w.made s.life) (quietly w)) o (quietly w))) there)
 
-  pub under-done : (strike : Strike) → {E : Type 0} (result : Result (Option EventEffects) E) (after : World) →
-      (let back = raised_under w.made strike s in IfOk result (λ news. (after ≡ back_with taken_out back) × (news ≡ back.1))) → IfOk result (λ news. telling after news ≡ recover_under w p strike)
-  under-done strike result after done = back-done (raised_under w.made strike s) (recover_under w p strike) (under-down strike) result after done
+-- ---- the calls
+
+-- the group doesn't have it as up where its node was taken out
+pub outside-taken : (w after : World) (p : ℕ) (s : Node) → IsHosted w → node_of w p ≡ Some s → is_some (replica_of w p) ≡ false →
+    ((life : NodeState) → set_life after p life ≡ set_life w p life) → is_up after.group s.id ≡ false
+outside-taken w after p s is there down same = ap (λ (v : World). is_up v.group s.id) (same s.life) ∙ down-outside w p s is there down
+
+module _ (g self : StepInProgress) (after : World) (p : ℕ) (is_self : g ≡ self) (quiet : self ≡ quietly self.world) where
+  pub quiet-taken : record g { world = after } ≡ quietly after
+  quiet-taken = ap (λ (x : StepInProgress). record x { world = after }) (is_self ∙ quiet)
+
+  none-there : node_of g.world p ≡ None → node_of self.world p ≡ None
+  none-there none = subst (λ (x : StepInProgress). node_of x.world p ≡ None) is_self none
+
+  still : after ≡ g.world → record g { world = after } ≡ quietly self.world
+  still stays = ap (λ w. record g { world = w }) stays ∙ is_self ∙ quiet
+
+  pub nobody-recovers : (node_of g.world p ≡ None) × (after ≡ g.world) → record g { world = after } ≡ recover self.world p
+  nobody-recovers h =
+      let w = self.world in
+      still h.1 ∙ sym (ap (λ o. option_map_or (λ (s : Node). option_map_or (comes_up w) (risen w.made s.life) (quietly w)) o (quietly w)) (none-there h.0))
+
+  pub nobody-recovers_under : (strike : Strike) → (node_of g.world p ≡ None) × (after ≡ g.world) → record g { world = after } ≡ recover_under self.world p strike
+  nobody-recovers_under strike h =
+      let w = self.world in
+      still h.1 ∙ sym (ap (λ o. option_map_or (λ (s : Node). option_map_or (λ life. quietly (set_life w p life)) (stays_down strike s.life)
+      (option_map_or (λ (s : Node). option_map_or (comes_up w) (risen w.made s.life) (quietly w)) o (quietly w))) o (option_map_or (λ (s : Node). option_map_or (comes_up w) (risen w.made s.life) (quietly w)) o (quietly w))) (none-there h.0))
 
 -- ---- its disk becomes one of the older format
 
@@ -198,11 +188,7 @@ weighs-on : (life : NodeState) → has_weights (node_disk life).content ≡ fals
 weighs-on (Up r disk) none = refl
 weighs-on (Down disk green) none = none
 
-unrefused : (b : Bool) (reason : Reason) → refuse b reason ≡ None → b ≡ false
-unrefused true reason e = absurd (let clash : Some reason ≡ None = e in cc)
-unrefused false reason e = refl
-
 pub weightless : (w : World) (p : ℕ) (s : Node) → node_of w p ≡ Some s → is_weighted w p ≡ None → weighs s.life ≡ false
 weightless w p s there none =
     weighs-on s.life (sym (ap (λ o. option_map_or (λ (d : Disk). has_weights d.content) (option_map (λ (s : Node). node_disk s.life) o) false) there)
-    ∙ unrefused (option_map_or (λ (d : Disk). has_weights d.content) (disk_at w p) false) (Weighted p) none)
+    ∙ refuse_none (option_map_or (λ (d : Disk). has_weights d.content) (disk_at w p) false) (Weighted p) none)

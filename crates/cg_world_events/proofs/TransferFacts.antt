@@ -1,5 +1,5 @@
 -- The snapshots under way, after one was taken out or its giver went down, and the one of which pieces are taken.
-use Rattle.std.proofs.Common.{◌≡◌, Bool, true, false, ℕ, zero, suc, ◌<◌, ◌≤◌, cond, not, List, [], ◌∷◌, length, Option, Some, None, is_some, refl, sym, ap, ◌∙◌, arith, eqb-true, filter, find, position, get_or, inl, inr, ⊎_elim, nat_lt, option_and_then}
+use Rattle.std.proofs.Common.{◌≡◌, Bool, true, false, ℕ, zero, suc, ◌<◌, ◌≤◌, cond, not, List, [], ◌∷◌, length, Option, Some, None, is_some, refl, sym, ap, ◌∙◌, arith, filter, find, position, get_or, inl, inr, ⊎_elim, nat_lt, option_and_then}
 use Rattle.std.specs.Prelude.{◌==◌, ◌&&◌}
 use Rattle.std.specs.List.{remove, position_or_len, slice_get}
 use Rattle.std.specs.Option.{option_map_or}
@@ -7,7 +7,7 @@ use Rattle.std.proofs.lemmas.List.Quantifiers.{position-Some}
 use Rattle.std.proofs.lemmas.List.Folds.{find_at}
 use Rattle.std.proofs.lemmas.List.Sums.{position_or_len_is}
 use Rattle.std.proofs.lemmas.Option.{slice_get-get_or, slice_get_past}
-use Rattle.std.proofs.lemmas.Bool.{cases_Bool, cases_lt, cond-true, cond-false, lt-ltb, and_parts}
+use Rattle.std.proofs.lemmas.Bool.{cases_Bool, cases_lt, cond-true, lt-ltb, and_parts}
 use Rattle.cg_base.specs.SetLaws.{filter-keeps, filter-drops}
 use Rattle.cg_group.specs.declared.reason.Reason.{Reason}
 use Rattle.cg_group.specs.declared.reason.Reason.TheVariants.{AlreadyUp}
@@ -23,6 +23,7 @@ use Rattle.cg_model.specs.Step.{quietly, snapshot_for, without_snapshot, takes, 
 use Rattle.cg_world_events.specs.Grounds.{IsHosted}
 use Rattle.cg_world_events.specs.Choosing.{Chooses}
 use Rattle.cg_group.specs.RefusalLaws.{refuse_none}
+use Rattle.cg_model.specs.NodeLaws.{snapshot-joiner}
 
 -- ---- one is taken out
 
@@ -74,21 +75,6 @@ taken-out p joiner list i d e =
 -- ---- its pieces
 
 -- it is for the joiner
-snapshot-joiner : (w : World) (p joiner : ℕ) (r : Replica) → (snapshot_for w p joiner r).joiner ≡ joiner
-snapshot-joiner w p joiner r = at w.snapshots
-  where
-    make : TransferState
-    make = record { joiner = joiner; giver = p; content = r.held; taken = 0 }
-
-    at : (list : List TransferState) → (option_map_or (λ (s : TransferState). s) (find (is_between p joiner) list) make).joiner ≡ joiner
-    at [] = refl
-    at (s ∷ list) = elim (cases_Bool (is_between p joiner s)) [
-      | inl here ↦
-          ap (λ o. (option_map_or (λ (s : TransferState). s) o make).joiner) (cond-true (is_between p joiner s) (Some s) (find (is_between p joiner) list) here)
-          ∙ eqb-true s.joiner joiner (and_parts (s.joiner == joiner) (s.giver == p) here).0
-      | inr other ↦ ap (λ o. (option_map_or (λ (s : TransferState). s) o make).joiner) (cond-false (is_between p joiner s) (Some s) (find (is_between p joiner) list) other) ∙ at list
-    ]
-
 pub chosen-down : (old new : World) (p joiner : ℕ) (s : TransferState) → Chooses old new p joiner (Some s) → is_up old.group joiner ≡ false → is_up new.group s.joiner ≡ false
 chosen-down old new p joiner s chosen down =
     ap (λ (w : World). is_up w.group s.joiner) chosen.3 ∙ ap (λ (x : TransferState). is_up old.group x.joiner) chosen.2 ∙ ap (is_up old.group) (snapshot-joiner old p joiner chosen.0) ∙ down

@@ -1,14 +1,12 @@
--- What a step shows so far, but for its lines, and what was told before it.
-use Rattle.std.specs.Prelude.{◌≡◌, ℕ, suc, ◌+◌, ◌-◌, ◌≤◌, nat_lt, List, [], ◌∷◌, ◌++◌, map, fold, drop, length, if◌then◌else◌}
+-- What a step shows so far, but for its lines.
+use Rattle.std.specs.Prelude.{◌≡◌, ℕ, suc, ◌+◌, ◌≤◌, nat_lt, List, [], ◌∷◌, drop, length, if◌then◌else◌}
 use Rattle.cg_base.specs.declared.action_id.ActionId.{ActionId}
-use Rattle.cg_base.specs.Cuts.{raise}
-use Rattle.cg_queue.specs.Queue.{names_of}
 use Rattle.cg_report.specs.declared.entry.Made.{Made}
 use Rattle.cg_report.specs.declared.entry.Placed.{Placed}
 use Rattle.cg_report.specs.declared.entry.Reply.{Reply}
 use Rattle.cg_report.specs.declared.entry.Shown.{Shown}
-use Rattle.cg_model.specs.Show.{Answered, EventEffects, beyond, placed_from, answered_from, with_answered}
-use Rattle.cg_model.specs.Making.{made_of_action}
+use Rattle.cg_model.specs.World.{World}
+use Rattle.cg_model.specs.Show.{Answered, StepInProgress, answered_from}
 
 -- what a step shows so far
 pub record Shows : Type 0 where
@@ -20,23 +18,9 @@ pub record Shows : Type 0 where
 abbrev pub nothing_shown : Shows
 nothing_shown = record { made = []; orders = []; replies = []; shown = [] }
 
--- what came of an event at a replica is shown too, behind an order
-abbrev pub shows_after : List ActionId → Shows → EventEffects → Shows
-shows_after order s n =
-    record {
-      made = s.made ++ map made_of_action n.made;
-      orders = s.orders ++ placed_from (length order) (beyond order n.green n.count);
-      replies = fold with_answered s.replies (answered_from (n.count - length n.green) n.green n.replies);
-      shown = s.shown;
-    }
-
--- the order behind it
-abbrev pub order_after : List ActionId → EventEffects → List ActionId
-order_after order n = order ++ beyond order n.green n.count
-
--- the cut of what was shown as made behind it
-abbrev pub made_after : List ActionId → EventEffects → List ActionId
-made_after made n = fold raise made (names_of n.made)
+-- a step under way in a world, of which this is shown
+abbrev pub step_in : World → Shows → StepInProgress
+step_in w s = record { world = w; made = s.made; orders = s.orders; replies = s.replies; shown = s.shown }
 
 -- replies behind a place, or at it
 abbrev pub StartsFrom : ℕ → List Answered → Type 0

@@ -1,16 +1,12 @@
--- A recovery on its way: the replica's node stands again, and then what is to be shown of that is shown.
+-- A replica's node stands again behind a recovery.
 use Rattle.std.specs.Prelude.{Option, Some, None}
 use Rattle.cg_group.specs.Events.{come_up}
 use Rattle.cg_model.specs.World.{World, Node, set_life}
 use Rattle.cg_model.specs.Show.{StepInProgress, EventEffects, tell}
 use Rattle.cg_model.specs.Step.{quietly}
 
--- the replica is back: it has come up where something is to be shown of that, and else it is down
-abbrev pub back_with : World → Node × Option EventEffects → World
-back_with w (s, Some news) = let back = set_life w s.id s.life in record back { group = come_up w.group s.id }
-back_with w (s, None) = set_life w s.id s.life
-
--- what is to be shown of a recovery, where something is
-abbrev pub telling : World → Option EventEffects → StepInProgress
-telling w None = quietly w
-telling w (Some news) = tell (quietly w) news
+-- it has come up, and what is to be shown of that is shown; or it is down
+abbrev pub put_back : World → Node × Option EventEffects → StepInProgress
+put_back w (s, Some news) =
+    let up = set_life w s.id s.life in tell (quietly (record up { group = come_up up.group s.id })) news
+put_back w (s, None) = quietly (set_life w s.id s.life)

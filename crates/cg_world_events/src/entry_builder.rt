@@ -2,12 +2,13 @@ ghost use Rattle.std.specs.Prelude.{◌≡◌, ◌++◌, ◌∷◌, [], List, ma
 ghost use Rattle.cg_base.specs.declared.action_id.ActionId.{ActionId as ActionName};
 ghost use Rattle.cg_base.specs.Cuts.{raise};
 ghost use Rattle.cg_queue.specs.Queue.{names_of};
-ghost use Rattle.cg_model.specs.Show.{beyond, placed_from};
+ghost use Rattle.cg_model.specs.Show.{beyond, placed_from, tell};
 ghost use Rattle.cg_model.specs.Making.{made_of_action};
-ghost use Rattle.cg_world_events.specs.Showing.{nothing_shown, shows_after, order_after, made_after};
+ghost use Rattle.cg_world_events.specs.Showing.{nothing_shown, step_in};
 
-use crate::EventEffects;
 use crate::answered::Replies;
+use crate::made::MadeCut;
+use crate::{EventEffects, WorldState};
 use cg_action::{Action, ActionList};
 use cg_base::{ActionId, Cut, IdList, NoMemory, Row};
 use cg_report::{Entry, Line, Made, Placed, Shown};
@@ -54,17 +55,14 @@ impl EntryBuilder {
         }
     }
 
-    /// What came of an event at a replica is shown too. The order grows by the names that it doesn't have yet, and the cut of
-    /// what was shown as made by the actions that are.
-    pub fn tell(
+    /// What came of an event at a replica is shown too. The world's order grows by the names that it doesn't have yet, and the
+    /// cut of what was shown as made by the actions that are.
+    pub(crate) fn tell(
         &mut self,
-        order: &mut IdList,
-        made: &mut Cut,
+        world: &mut WorldState,
         news: EventEffects,
     ) -> Result<(), NoMemory>
-        ensures shown { OnOk result (self.new ≡ shows_after order.old self.old news) }
-        ensures order { OnOk result (order.new ≡ order_after order.old news) }
-        ensures made { OnOk result (made.new ≡ made_after made.old news) }
+        ensures { OnOk result (step_in world.new self.new ≡ tell (step_in world.old self.old) news) }
     {
         let EventEffects {
             made: actions,
@@ -75,8 +73,12 @@ impl EntryBuilder {
         let green = green.as_slice();
         let before = count.saturating_sub(green.len() as u64);
         self.replies.answer(before, green, replies)?;
-        place_all(order, &mut self.orders, beyond(order.len(), green, count))?;
-        show_made(made, &mut self.made, actions)
+        let more = beyond(world.order.len(), green, count);
+        place_all(&mut world.order, &mut self.orders, more)?;
+        let mut made = world.made.take_out(world.nodes.alloc())?;
+        show_made(&mut made, &mut self.made, actions)?;
+        world.made = MadeCut::of(made);
+        Ok(())
     }
 
     /// What an event asks for is shown.

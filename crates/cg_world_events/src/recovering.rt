@@ -1,5 +1,5 @@
 //! The ways back from a crash, and a disk of the older format.
-ghost use Rattle.std.specs.Prelude.{◌≡◌, ◌≤◌, None, false, is_some, IfOk, OnOk};
+ghost use Rattle.std.specs.Prelude.{◌≡◌, ◌≤◌, None, false, is_some, OnOk};
 ghost use Rattle.cg_group.specs.State.{is_up};
 ghost use Rattle.cg_disk_records.specs.Crash.{StopWith};
 ghost use Rattle.cg_schedule.specs.declared.event.Event.TheVariants.{Recover, RecoverStopped, Downgrade};
@@ -10,7 +10,7 @@ ghost use Rattle.cg_world_events.specs.Grounds.{IsHosted};
 ghost use Rattle.cg_world_events.specs.Happening.{Happens};
 ghost use Rattle.cg_world_events.specs.StepInProgress.{IsQuiet};
 ghost use Rattle.cg_world_events.specs.Nodes.{raised, raised_under};
-ghost use Rattle.cg_world_events.specs.Striking.{back_with, telling};
+ghost use Rattle.cg_world_events.specs.Striking.{put_back};
 
 use crate::admission::{admit, cannot_rise, is_weighted};
 use crate::{EventEffects, Node, StepInProgress, WorldState};
@@ -30,51 +30,31 @@ pub(crate) fn recover(
     ensures { Happens going.old (Recover p) going.new result }
 {
     admit(cannot_rise(&going.state, p))?;
-    recover_down(alloc, going, p)?;
+    come_up(alloc, going, p)?;
     Ok(())
 }
 
-fn recover_down(alloc: Global, going: &mut StepInProgress, p: ReplicaId) -> Result<(), NoMemory>
+// The replica comes up, and what is to be shown of that is shown.
+fn come_up(alloc: Global, going: &mut StepInProgress, p: ReplicaId) -> Result<(), NoMemory>
     requires quiet { IsQuiet going.old }
     requires hosted { IsHosted going.old.world }
     requires down { is_some (replica_of going.old.world p) ≡ false }
     ensures { OnOk result (going.new ≡ recover going.old.world p) }
 {
-    let news = come_up(alloc, &mut going.state, p)?;
-    match news {
-        Some(news) => going.tell(news),
+    match going.state.take(p) {
+        Some(node) => recover_node(alloc, going, node),
         None => Ok(()),
     }
 }
 
-// The replica comes up, with what is to be shown of that.
-fn come_up(
-    alloc: Global,
-    state: &mut WorldState,
-    p: ReplicaId,
-) -> Result<Option<EventEffects>, NoMemory>
-    requires hosted { IsHosted state.old }
-    requires down { is_some (replica_of state.old p) ≡ false }
-    ensures { IfOk result (λ news. telling state.new news ≡ recover state.old p) }
+fn recover_node(alloc: Global, going: &mut StepInProgress, node: Node) -> Result<(), NoMemory>
+    requires quiet { IsQuiet going.old }
+    requires outside { is_up going.old.world.group node.id ≡ false }
+    ensures { OnOk result (going.new ≡
+        put_back going.old.world (raised node (risen going.old.world.made node.life))) }
 {
-    match state.nodes.take(p) {
-        Some(node) => recover_node(alloc, state, node),
-        None => Ok(None),
-    }
-}
-
-fn recover_node(
-    alloc: Global,
-    state: &mut WorldState,
-    node: Node,
-) -> Result<Option<EventEffects>, NoMemory>
-    requires { is_up state.old.group node.id ≡ false }
-    ensures { IfOk result (λ news.
-        let back = raised node (risen state.old.made node.life) in
-        (state.new ≡ back_with state.old back) × (news ≡ back.1)) }
-{
-    let (node, news) = node.recover(alloc, &state.made.get())?;
-    put_back(state, node, news)
+    let (node, news) = node.recover(alloc, &going.state.made.get())?;
+    put_back(going, node, news)
 }
 
 // The replica comes back from its disk, unless it is stopped in the device call of this number, which leaves these bytes in
@@ -93,11 +73,12 @@ pub(crate) fn recover_stopped(
     ensures { Happens going.old (RecoverStopped p call fill.now) going.new result }
 {
     admit(cannot_rise(&going.state, p))?;
-    recover_under(alloc, going, p, call, fill)?;
+    come_up_under(alloc, going, p, call, fill)?;
     Ok(())
 }
 
-fn recover_under(
+// The replica comes up, and what is to be shown of that is shown; or it stays down.
+fn come_up_under(
     alloc: Global,
     going: &mut StepInProgress,
     p: ReplicaId,
@@ -111,65 +92,47 @@ fn recover_under(
     ensures { OnOk result (going.new ≡
         recover_under going.old.world p (record { call = call; fault = StopWith fill.now })) }
 {
-    let news = come_up_under(alloc, &mut going.state, p, call, fill)?;
-    match news {
-        Some(news) => going.tell(news),
+    match going.state.take(p) {
+        Some(node) => recover_node_under(alloc, going, node, call, fill),
         None => Ok(()),
-    }
-}
-
-// The replica comes up, with what is to be shown of that, or stays down.
-fn come_up_under(
-    alloc: Global,
-    state: &mut WorldState,
-    p: ReplicaId,
-    call: u64,
-    fill: &Bytes,
-) -> Result<Option<EventEffects>, NoMemory>
-    requires hosted { IsHosted state.old }
-    requires down { is_some (replica_of state.old p) ≡ false }
-    requires counted { 1 ≤ call }
-    ensures { IfOk result (λ news. telling state.new news ≡
-        recover_under state.old p (record { call = call; fault = StopWith fill.now })) }
-{
-    match state.nodes.take(p) {
-        Some(node) => recover_node_under(alloc, state, node, call, fill),
-        None => Ok(None),
     }
 }
 
 fn recover_node_under(
     alloc: Global,
-    state: &mut WorldState,
+    going: &mut StepInProgress,
     node: Node,
     call: u64,
     fill: &Bytes,
-) -> Result<Option<EventEffects>, NoMemory>
-    requires outside { is_up state.old.group node.id ≡ false }
+) -> Result<(), NoMemory>
+    requires quiet { IsQuiet going.old }
+    requires outside { is_up going.old.world.group node.id ≡ false }
     requires counted { 1 ≤ call }
-    ensures { IfOk result (λ news.
-        let back = raised_under state.old.made (record { call = call; fault = StopWith fill.now }) node in
-        (state.new ≡ back_with state.old back) × (news ≡ back.1)) }
+    ensures { OnOk result (going.new ≡ put_back going.old.world
+        (raised_under going.old.world.made (record { call = call; fault = StopWith fill.now }) node)) }
 {
-    let (node, news) = node.recover_stopped(alloc, call, fill.as_slice(), &state.made.get())?;
-    put_back(state, node, news)
+    let made = going.state.made.get();
+    let (node, news) = node.recover_stopped(alloc, call, fill.as_slice(), &made)?;
+    put_back(going, node, news)
 }
 
-// The replica stands again: it is up where something is to be shown of that, and else down.
+// The replica's node stands again: it is up where something is to be shown of that, and else down.
 fn put_back(
-    state: &mut WorldState,
+    going: &mut StepInProgress,
     node: Node,
     news: Option<EventEffects>,
-) -> Result<Option<EventEffects>, NoMemory>
-    requires { is_up state.old.group node.id ≡ false }
-    ensures { IfOk result (λ shown. (state.new ≡ back_with state.old (node, news)) × (shown ≡ news)) }
+) -> Result<(), NoMemory>
+    requires quiet { IsQuiet going.old }
+    requires outside { is_up going.old.world.group node.id ≡ false }
+    ensures { OnOk result (going.new ≡ put_back going.old.world (node, news)) }
 {
-    let id = node.id();
-    state.nodes.put(node)?;
-    if news.is_some() {
-        state.group.add(id)?;
+    match news {
+        Some(news) => {
+            going.state.put_up(node)?;
+            going.tell(news)
+        }
+        None => going.state.put_down(node),
     }
-    Ok(news)
 }
 
 // In place of the replica's disk there is one of the older format, which stands for the same.

@@ -5,7 +5,8 @@ ghost use Rattle.cg_base.specs.Sets.{has};
 ghost use Rattle.cg_members.specs.Servers.{is_server};
 ghost use Rattle.cg_disk_records.specs.Holds.{Holds};
 ghost use Rattle.cg_group.specs.Ready.{ready};
-ghost use Rattle.cg_group.specs.Events.{send_all};
+ghost use Rattle.cg_group.specs.State.{is_up};
+ghost use Rattle.cg_group.specs.Events.{come_up, send_all};
 ghost use Rattle.cg_base.specs.Lists.{first_some};
 ghost use Rattle.cg_group.specs.Refusals.{not_up};
 ghost use Rattle.cg_older.specs.Older.{has_weights};
@@ -266,6 +267,16 @@ impl WorldState {
         }
     }
 
+    // The node of a replica is taken out, where it has begun.
+    pub(crate) fn take(&mut self, p: ReplicaId) -> Option<Node>
+        ensures { MatchOption result
+            ((node_of self.old p ≡ None) × (self.new ≡ self.old))
+            (λ s. (node_of self.old p ≡ Some s)
+            × ((life : NodeState) → set_life self.new p life ≡ set_life self.old p life)) }
+    {
+        self.nodes.take(p)
+    }
+
     // The node of a replica that is up is taken out; any other stays.
     pub(crate) fn take_up(&mut self, p: ReplicaId) -> Option<BoxedNode>
         ensures { MatchOption result
@@ -285,6 +296,25 @@ impl WorldState {
         ensures { OnOk result (self.new ≡ set_life self.old node.id node.life) }
     {
         self.nodes.put_boxed(node)
+    }
+
+    // The replica's node is this one, and it comes up in the group too, where it isn't up.
+    pub(crate) fn put_up(&mut self, node: Node) -> Result<(), NoMemory>
+        requires { is_up self.old.group node.id ≡ false }
+        ensures { OnOk result (
+            let up = set_life self.old node.id node.life in
+            self.new ≡ record up { group = come_up up.group node.id }) }
+    {
+        let id = node.id();
+        self.nodes.put(node)?;
+        self.group.add(id)
+    }
+
+    // The replica's node is this one, of a replica that is down.
+    pub(crate) fn put_down(&mut self, node: Node) -> Result<(), NoMemory>
+        ensures { OnOk result (self.new ≡ set_life self.old node.id node.life) }
+    {
+        self.nodes.put(node)
     }
 
     // The node of a replica that went down stands; it leaves the group, and its snapshots end.

@@ -11,10 +11,9 @@ ghost use Rattle.cg_model.specs.Step.{quietly, taken, comes_back, hand, hand_ove
 ghost use Rattle.cg_model.specs.Standing.{IsHandedBooked, AreBookedInTurn};
 ghost use Rattle.cg_model.specs.Touched.{ShowsNewsOf, new_lines_of};
 ghost use Rattle.cg_world_events.specs.Nodes.{turned, IsBookedFor};
-ghost use Rattle.cg_world_events.specs.Showing.{shows_after, order_after, made_after};
+ghost use Rattle.cg_world_events.specs.Showing.{step_in};
 ghost use Rattle.cg_model.specs.Show.{ended, ended_with, tell};
 
-use crate::made::MadeCut;
 use crate::nodes::BoxedNode;
 use crate::{EntryBuilder, EventEffects, NodeOutput, WorldState};
 use cg_base::{IdSet, NoMemory, ReplicaId, Row};
@@ -55,24 +54,6 @@ impl Model for StepInProgress {
     } };
 }
 
-// What came of an event at a replica, in the world and in what is shown.
-fn tell_effects(
-    state: &mut WorldState,
-    showing: &mut EntryBuilder,
-    news: EventEffects,
-) -> Result<(), NoMemory>
-    ensures shown { OnOk result (showing.new ≡ shows_after state.old.order showing.old news) }
-    ensures state { OnOk result (state.new ≡ record state.old {
-      order = order_after state.old.order news;
-      made = made_after state.old.made news;
-    }) }
-{
-    let mut made = state.made.take_out(state.nodes.alloc())?;
-    showing.tell(&mut state.order, &mut made, news)?;
-    state.made = MadeCut::of(made);
-    Ok(())
-}
-
 impl StepInProgress {
     /// Nothing has come of an event but this world.
     pub fn quietly(alloc: Global, state: Box<WorldState>) -> StepInProgress
@@ -104,7 +85,7 @@ impl StepInProgress {
     pub(crate) fn tell(&mut self, news: EventEffects) -> Result<(), NoMemory>
         ensures { OnOk result (self.new ≡ tell self.old news) }
     {
-        tell_effects(&mut self.state, &mut self.showing, news)
+        self.showing.tell(&mut self.state, news)
     }
 
     /// A replica takes what the group hands to it, where it is up.
@@ -227,13 +208,7 @@ fn show_all(showing: &mut EntryBuilder, list: Row<Shown>) -> Result<(), NoMemory
 // The lines that are news are printed.
 fn end(state: &mut WorldState, showing: EntryBuilder, touched: &IdSet) -> Result<Entry, NoMemory>
     ensures { IfOk result (λ e. record { entry = e; world = state.new } ≡
-        ended_with (record {
-          world = state.old;
-          made = showing.made;
-          orders = showing.orders;
-          replies = showing.replies;
-          shown = showing.shown;
-        }) (new_lines_of touched.now state.old)) }
+        ended_with (step_in state.old showing) (new_lines_of touched.now state.old)) }
 {
     let lines = state.new_lines_of(touched)?;
     state.lines.print_all(lines.as_slice())?;

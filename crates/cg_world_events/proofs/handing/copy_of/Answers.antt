@@ -1,4 +1,4 @@
-use Rattle.std.proofs.Common.{◌≡◌, IfOk, Option, Some, IfSome, sym, ap, subst, ◌∙◌}
+use Rattle.std.proofs.Common.{Some, IfSome, sym, ap, subst, ◌∙◌}
 use Rattle.std.specs.Option.{option_copied}
 use Rattle.cg_disk_records.specs.Holds.{Holds}
 use Rattle.cg_model.specs.World.{replica_of}

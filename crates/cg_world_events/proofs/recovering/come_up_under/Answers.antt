@@ -1,21 +1,34 @@
-use Rattle.std.proofs.Common.{◌≡◌, IfOk, is_some, false, subst, sym}
+use Rattle.std.proofs.Common.{◌≡◌, OnOk, None, Some, subst}
 use Rattle.cg_disk_records.specs.Crash.{StopWith}
-use Rattle.cg_model.specs.World.{replica_of}
-use Rattle.cg_model.specs.Step.{recover_under}
-use Rattle.cg_world_events.specs.Grounds.{IsHosted}
-use Rattle.cg_world_events.specs.Striking.{telling}
-use Rattle.cg_world_events.specs.contracts.state.WorldState.{the_view}
-use Rattle.cg_world_events.proofs.StruckNodes.{down-outside, under-done}
+use Rattle.cg_model.specs.World.{NodeState, World, node_of, set_life}
+use Rattle.cg_model.specs.Show.{StepInProgress}
+use Rattle.cg_world_events.proofs.StruckNodes.{outside-taken, quiet-taken, under-down, nobody-recovers_under}
 use Rattle.cg_world_events.proofs.recovering.come_up_under.Goals as goal
+
+pub recover_node_under-requires-clause-quiet : goal.recover_node_under-requires-clause-quiet
+recover_node_under-requires-clause-quiet c = quiet-taken _ c.args.going.now c.take.new.self c.args.p c.going.view_is c.requires.quiet
 
 pub recover_node_under-requires-clause-outside : goal.recover_node_under-requires-clause-outside
 recover_node_under-requires-clause-outside c =
-    down-outside (the_view c.state.inside) c.args.p c.in-Some.node (subst IsHosted (sym c.state.view_is) c.requires.hosted) c.in-Some.ensures.taken.0
-    (subst (λ w. is_some (replica_of w c.args.p) ≡ false) (sym c.state.view_is) c.requires.down)
+    let w = c.args.going.now.world in
+    let there = subst (λ (v : World). node_of v c.args.p ≡ Some c.in-Some.node) c.deref_mut.ensures.value c.in-Some.ensures.0 in
+    let same = subst (λ (v : World). (life : NodeState) → set_life c.take.new.self c.args.p life ≡ set_life v c.args.p life) c.deref_mut.ensures.value c.in-Some.ensures.1 in
+    outside-taken w c.take.new.self c.args.p c.in-Some.node c.requires.hosted
+    (subst (λ (g : StepInProgress). node_of g.world c.args.p ≡ Some c.in-Some.node) c.going.view_is there) c.requires.down
+    (subst (λ (g : StepInProgress). (life : NodeState) → set_life c.take.new.self c.args.p life ≡ set_life g.world c.args.p life) c.going.view_is same)
 
 pub returns-in-Some : goal.returns-in-Some
 returns-in-Some c =
-    subst (λ w. IfOk c.recover_node_under.result (λ news. telling c.recover_node_under.new.state news ≡ recover_under w c.args.p (record { call = c.args.call; fault = StopWith c.args.fill.now }))) c.state.view_is
-    (under-done (the_view c.state.inside) c.take.new.self c.args.p c.in-Some.node (subst IsHosted (sym c.state.view_is) c.requires.hosted) c.in-Some.ensures.taken.0
-    (subst (λ w. is_some (replica_of w c.args.p) ≡ false) (sym c.state.view_is) c.requires.down) c.in-Some.ensures.taken.1
-    (record { call = c.args.call; fault = StopWith c.args.fill.now }) c.recover_node_under.result c.recover_node_under.new.state c.recover_node_under.ensures)
+    let w = c.args.going.now.world in
+    let there = subst (λ (v : World). node_of v c.args.p ≡ Some c.in-Some.node) c.deref_mut.ensures.value c.in-Some.ensures.0 in
+    let same = subst (λ (v : World). (life : NodeState) → set_life c.take.new.self c.args.p life ≡ set_life v c.args.p life) c.deref_mut.ensures.value c.in-Some.ensures.1 in
+    subst (λ (g : StepInProgress). OnOk c.recover_node_under.result (c.recover_node_under.new.going ≡ g))
+    (under-down w c.take.new.self c.args.p c.in-Some.node c.requires.hosted
+    (subst (λ (g : StepInProgress). node_of g.world c.args.p ≡ Some c.in-Some.node) c.going.view_is there) c.requires.down
+    (subst (λ (g : StepInProgress). (life : NodeState) → set_life c.take.new.self c.args.p life ≡ set_life g.world c.args.p life) c.going.view_is same) (record { call = c.args.call; fault = StopWith c.args.fill.now }))
+    c.recover_node_under.ensures
+
+pub returns-in-None : goal.returns-in-None
+returns-in-None c =
+    nobody-recovers_under _ c.args.going.now c.take.new.self c.args.p c.going.view_is c.requires.quiet (record { call = c.args.call; fault = StopWith c.args.fill.now })
+    (subst (λ (w : World). (node_of w c.args.p ≡ None) × (c.take.new.self ≡ w)) c.deref_mut.ensures.value c.in-None.ensures)
