@@ -36,6 +36,7 @@ use Rattle.cg_agree_lemmas.specs.TalkSame.{said-of, talk-from, content-same, act
 use Rattle.cg_agree_lemmas.specs.TurnActs.{content-turn, acts-turn}
 use Rattle.cg_agree_lemmas.specs.TurnTalk.{IsQuiet, CreatesOrIsQuiet, quiet-same, creating-regular, number-of, settle-each, ask-each, asks-kept, settles-kept}
 use Rattle.cg_disk_records.specs.Holds.{cut_behind}
+use Rattle.cg_client.specs.OwnLaws.{last_index-push}
 
 -- ---- what a turn creates
 
@@ -65,11 +66,6 @@ none-created t u sent own id queue state = record {
   count = ap₂ max (ap₂ (λ q i. index_in q.red_cut i) queue id) (ap last_index own) ∙ (let e : created t.replica.held ≡ created t.replica.held + 0 = omega arith in e);
 }
 
-last-more : (xs : List Action) (a : Action) → last_index (xs ++ a ∷ []) ≡ a.id.index
-last-more [] a = refl
-last-more (x ∷ []) a = refl
-last-more (x ∷ y ∷ xs) a = last-more (y ∷ xs) a
-
 one-created : (t : Turn) (kind : Kind) → Creates t (create t kind)
 unfolding create
 one-created t kind =
@@ -84,7 +80,7 @@ one-created t kind =
       reds = refl;
       state = refl;
       row = refl;
-      count = ap (max (index_in h.queue.red_cut h.id)) (last-more h.own a) ∙ bigger (index_in h.queue.red_cut h.id) (last_index h.own);
+      count = ap (max (index_in h.queue.red_cut h.id)) (last_index-push h.own a) ∙ bigger (index_in h.queue.red_cut h.id) (last_index h.own);
     } where
       bigger : (x y : ℕ) → max x (suc (max x y)) ≡ max x y + 1
       bigger x y = omega arith

@@ -33,13 +33,14 @@ use Rattle.cg_model.specs.Small.{Small, small_step}
 use Rattle.cg_model.specs.Smalls.{may_make}
 use Rattle.cg_agree_lemmas.specs.SmallTalk.{conf-there}
 use Rattle.cg_agree_lemmas.specs.HandNext.{legal-at}
-use Rattle.cg_agree_lemmas.specs.HandsKept.{hosted, regular-up}
+use Rattle.cg_agree_lemmas.specs.HandsKept.{hosted}
 use Rattle.cg_agree_lemmas.specs.HandsNow.{whole-through}
 use Rattle.cg_agree_lemmas.specs.ReachSteps.{goes_on-kept}
 use Rattle.cg_agree_lemmas.specs.AttemptsGrow.{attempts-grow}
 use Rattle.cg_agree.proofs.AttemptSteps.{group-of}
 use Rattle.cg_agree.proofs.LevelsOpen.{some-installed, installed-grows}
 use Rattle.cg_agree.proofs.OutSaid.{said-out}
+use Rattle.cg_group.specs.RefusalLaws.{regular-up}
 
 abbrev is_deciding : State → Bool
 is_deciding s = is_attempting s || is_primary s

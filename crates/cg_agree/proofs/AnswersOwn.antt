@@ -37,7 +37,6 @@ use Rattle.cg_model.specs.FactsTalk.{AreTold, handed_talk}
 use Rattle.cg_agree.proofs.EndReached.{best-of}
 use Rattle.cg_agree_lemmas.specs.HandMay.{HasNext}
 use Rattle.cg_agree_lemmas.specs.HandNext.{legal-front}
-use Rattle.cg_agree_lemmas.specs.HandSays.{has_part}
 use Rattle.cg_agree.proofs.HandsAll.{KnowsAtEnd}
 use Rattle.cg_agree_lemmas.specs.HandsKept.{CanAnswer}
 use Rattle.cg_agree_lemmas.specs.HandsTalk.{HasAnswer}
@@ -49,6 +48,7 @@ use Rattle.cg_agree_lemmas.specs.PlanProgress.{IsBehind, greens_there}
 use Rattle.cg_agree_lemmas.specs.TalkEarly.{early-legal, early-none, not_full, due_parts}
 use Rattle.cg_agree.proofs.ToldBeside.{told-fits, told-id, mine-of}
 use Rattle.cg_agree.proofs.ExchangeThere.{may, oneself, in_exchange, in-states, in-actions, heard_before, heard_behind, full-sent, best, stays, near, unmoved-behind, unmoved-gone, before-greens, take-gone, behind-green, behind-red, unmoved-holds, behind-holds, best-greens, white-item}
+use Rattle.cg_model.specs.Total.{keeps_part}
 
 -- ---- the known cut as a plan goes on
 
@@ -139,7 +139,7 @@ module _ (c : Chronicle) (p : ℕ) (i : Invariant c) (conf : ℕ) (r : Replica) 
 
   -- the first part of the plan
   answers-summary : (x : Summary) → s.message ≡ StateMsg x → is_full members (hears_from before s.from (StateMsg x)) ≡ true →
-      has_part r.held.queue (turn_of (plan_of (hears_from before s.from (StateMsg x)).heard) p 0) ≡ true
+      keeps_part r.held.queue (turn_of (plan_of (hears_from before s.from (StateMsg x)).heard) p 0) ≡ true
   answers-summary x is full =
       let heard = (hears_from before s.from (StateMsg x)).heard in
       let are = subst (λ m. AreTold c conf (hears_from before s.from m).heard) is (heard_behind c p i conf r s regular runs next) in
@@ -160,7 +160,7 @@ module _ (c : Chronicle) (p : ℕ) (i : Invariant c) (conf : ℕ) (r : Replica) 
       let b = best c p i conf r s regular runs next before.heard are full in
       let found = (in_exchange c p i conf r s regular runs next).found in
       ⊎_elim
-      (λ left. subst (λ (u : Turn). has_part u.replica.held.queue (turn_of (plan_of before.heard) p (suc before.accepted)) ≡ true) (sym (take-gone c p i conf r s regular runs next m left))
+      (λ left. subst (λ (u : Turn). keeps_part u.replica.held.queue (turn_of (plan_of before.heard) p (suc before.accepted)) ≡ true) (sym (take-gone c p i conf r s regular runs next m left))
       (turn-held c.start r.held (greens_of c p) before.heard p (suc before.accepted) (oneself c p i conf r s regular runs next)
       (parts-held c i conf p before.heard b mine r.held (greens_of c p) are found
       (unmoved-holds c p i conf r s regular runs next before.heard are full (unmoved-gone c p i conf r s regular runs next full parts.1 left)))))

@@ -44,7 +44,7 @@ use Rattle.cg_agree.proofs.ExchangeBehind.{up-now, greens-same}
 use Rattle.cg_agree.proofs.ExchangeSmalls.{greens-turning, replica-behind, greens-behind, stays-told}
 use Rattle.cg_agree_lemmas.specs.GroupKept.{leaving-regular}
 use Rattle.cg_agree_lemmas.specs.GroupSound.{phase-made}
-use Rattle.cg_agree_lemmas.specs.HandsKept.{regular-phase, regular-up, hosted}
+use Rattle.cg_agree_lemmas.specs.HandsKept.{regular-phase, hosted}
 use Rattle.cg_agree_lemmas.specs.HandsNow.{HandsNow, hands-now, hands-regular, hand-turned, new, running-now}
 use Rattle.cg_agree_lemmas.specs.HeldCommit.{white-oneself}
 use Rattle.cg_agree_lemmas.specs.HeldMarks.{IsOneself}
@@ -68,9 +68,8 @@ use Rattle.cg_agree_lemmas.specs.ToldKept.{told-same}
 use Rattle.cg_agree.proofs.ToldStays.{told-entered}
 use Rattle.cg_agree_lemmas.specs.TurnKinds.{IsQuiet, HasAttempted, EndsWith, Turned, Quiet, Installs, Decides, Attempts}
 use Rattle.cg_agree_lemmas.specs.TurnParts.{never-both, settle-quiet, request-quiet, newest-come}
-
-abbrev greens-in : Option Past → List Action
-greens-in o = option_map_or (λ x. x.greens) o []
+use Rattle.cg_group.specs.RefusalLaws.{regular-up}
+use Rattle.cg_agree_lemmas.specs.Looking.{greens-in}
 
 -- the actions that are booked stay so
 pub more-booked : (c d : Chronicle) (more : List Action) → d.book ≡ c.book ++ more → (xs : List Action) → AreBooked c xs → AreBooked d xs

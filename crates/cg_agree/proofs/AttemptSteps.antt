@@ -44,7 +44,7 @@ use Rattle.cg_agree_lemmas.specs.AttemptsTurn.{ends-exchanging, ends-beside, qui
 use Rattle.cg_agree_lemmas.specs.TurnKinds.{IsQuiet, HasInstalled, HasAttempted, new_record, Turned, Quiet, Installs, Decides, Attempts}
 use Rattle.cg_agree_lemmas.specs.TurnParts.{settle-quiet, request-quiet, newest-come}
 use Rattle.cg_agree_lemmas.specs.PartingActs.{IsActAt, PartedBy, parting-by}
-use Rattle.cg_agree_lemmas.specs.HandsKept.{regular-phase, regular-up, Sits, hosted}
+use Rattle.cg_agree_lemmas.specs.HandsKept.{regular-phase, Sits, hosted}
 use Rattle.cg_agree_lemmas.specs.HandsNow.{HandsNow, hands-now, new, hands-regular, set, behind, count, hand-turned, hand-state, running-now, whole-through}
 use Rattle.cg_agree_lemmas.specs.GroupSound.{GroupSound, sound-of}
 use Rattle.cg_agree_lemmas.specs.GroupKept.{handed_received-kept, leaving-regular}
@@ -52,6 +52,7 @@ use Rattle.cg_agree_lemmas.specs.OneSteps.{hands-step}
 use Rattle.cg_agree.proofs.PastKept.{enters-now}
 use Rattle.cg_agree_lemmas.specs.PlanEnd.{AtPlanEnd, is_behind, plan-end}
 use Rattle.cg_agree_lemmas.specs.RecordKept.{turn-is}
+use Rattle.cg_group.specs.RefusalLaws.{regular-up}
 
 -- the group of a chronicle is sound
 pub group-of : (c : Chronicle) → Invariant c → GroupSound c

@@ -1,5 +1,5 @@
 -- Every small step keeps the fact that members have begun, and that who has begun is or was a server as its own greens say.
-use Rattle.std.proofs.Common.{◌≡◌, ℕ, Bool, true, false, cond, not, ◌&&◌, ◌⊎◌, inl, inr, List, [], ◌∷◌, map, find, fold, Option, Some, None, IfSome, refl, sym, ap, subst, ◌∙◌, ⊎_elim, is_some, option_map, eqb-true, eq-eqb}
+use Rattle.std.proofs.Common.{◌≡◌, ℕ, Bool, true, false, cond, not, ◌&&◌, ◌⊎◌, inl, inr, List, [], ◌∷◌, find, fold, Option, Some, None, IfSome, refl, sym, ap, subst, ◌∙◌, ⊎_elim, is_some, option_map, eqb-true, eq-eqb}
 use Rattle.std.specs.Prelude.{◌==◌}
 use Rattle.std.specs.Option.{option_map_or}
 use Rattle.std.specs.List.{list_all}
@@ -40,7 +40,7 @@ use Rattle.cg_agree_lemmas.specs.NextThere.{orders-now, receives-now}
 use Rattle.cg_agree_lemmas.specs.OneSteps.{OneStep, MayJoin, may-join, may-enter, begun-set, running-begun, turns-step, hands-step, leaves-step, enters-step, commits-step, copies-step, crashes-step, recovers-step, joins-step}
 use Rattle.cg_agree.proofs.PastKept.{EntersNow, enters-now, entry_told, told_in-enters}
 use Rattle.cg_agree_lemmas.specs.ToldKept.{told-same, told_in-same}
-use Rattle.cg_agree_lemmas.specs.CoresSmall.{nil-is}
+use Rattle.cg_agree_lemmas.specs.CoresSmall.{nil-is, nothing-stood}
 
 -- ---- what stands on disks
 
@@ -203,12 +203,6 @@ named-begun set (p ∷ replicas) w q begun = ⊎_elim
     (λ n. inl (sym (begun-set w p (Up (fresh p set) (new_disk (fresh p set).held)) q ∙ cond-false (q == p) true (has_begun w q) n) ∙ was)) (cases_Bool (q == p)))
     (λ rest. inr (or_right (p == q) (has replicas q) rest))
     (named-begun set replicas (begin_replica set w p) q begun)
-
-nothing-stood : (replicas : List ℕ) (q : ℕ) → option_map_or (λ (x : Past). x.stood) (find (λ x. x.id == q) (map (new_past []) replicas)) [] ≡ []
-nothing-stood [] q = refl
-nothing-stood (p ∷ replicas) q =
-    cond_both (p == q) (Some (new_past [] p)) (find (λ (x : Past). x.id == q) (map (new_past []) replicas)) (λ o. option_map_or (λ (x : Past). x.stood) o [] ≡ [])
-    (λ y. refl) (λ n. nothing-stood replicas q)
 
 server-starts : (c : Chronicle) (set : List Weighted) → c ≡ no_chronicle → (q : ℕ) → has_begun (start c set).world q ≡ true → was_ever (members_of set (stood_of (start c set) q)) q ≡ true
 server-starts c set is q = subst (λ (x : Chronicle). has_begun (start x set).world q ≡ true → was_ever (members_of set (stood_of (start x set) q)) q ≡ true) (sym is) (λ begun.

@@ -10,7 +10,7 @@ use Rattle.cg_agree_lemmas.specs.FrontFacts.{Front-length, Front-map, Front-of_b
 use Rattle.cg_agree_lemmas.specs.OrderCopies.{OfSnapshots, copy-of, each-found}
 use Rattle.cg_agree_lemmas.specs.SameSmalls.{as_given, first-given}
 use Rattle.cg_agree_lemmas.specs.SoundWorlds.{sound-of, sound-same}
-use Rattle.cg_agree_lemmas.specs.TurnGreens.{made-count, names-count}
+use Rattle.cg_agree_lemmas.specs.TurnGreens.{made-count}
 use Rattle.cg_model.specs.FactsBooks.{AreShown, IsActionShown, IsNameShown}
 use Rattle.cg_model.specs.Chronicle.{Chronicle}
 use Rattle.cg_model.specs.Facts.{Invariant}
@@ -27,6 +27,7 @@ use Rattle.cg_base.specs.Lists.{Each}
 use Rattle.cg_base.specs.EachLaws.{Each-drop}
 use Rattle.cg_base.specs.FindLaws.{found_each}
 use Rattle.cg_queue.specs.Queue.{green_count, names_of}
+use Rattle.cg_queue.specs.NameLaws.{names-count}
 
 -- what is held is made of a front of the order, of which the giver has all
 pub record IsCopyOf (order : List ActionId) (greens : ℕ → List Action) (giver : ℕ) (h : Held) : Type 0 where

@@ -39,6 +39,7 @@ use Rattle.cg_agree_lemmas.specs.TurnParts.{HasParted, settle-quiet, request-qui
 use Rattle.cg_agree_lemmas.specs.HandsNow.{HandsNow, hands-now, new, hand-turned, running-now}
 use Rattle.cg_agree_lemmas.specs.PlanEnd.{AtPlanEnd, is_behind, plan-end, mine-among}
 use Rattle.cg_agree_lemmas.specs.RecordKept.{same-replica, enters-between}
+use Rattle.cg_agree_lemmas.specs.Looking.{greens-in, core_in}
 
 -- ---- a core behind a step
 
@@ -50,9 +51,6 @@ pub data CoreMove (c : Chronicle) (p : ℕ) (h : Held) : Type 0 where
 pub record CoresMove (c d : Chronicle) : Type 0 where
   pub move : (p : ℕ) (h : Held) → core_of d p ≡ Some h → CoreMove c p h
   pub greens : (p : ℕ) → length (greens_of c p) ≤ length (greens_of d p)
-
-abbrev core_in : Option Node → Option Held
-core_in o = option_map (λ s. held_in s.life) o
 
 -- nothing has changed
 moves-none : (c d : Chronicle) → d.world.nodes ≡ c.world.nodes → d.pasts ≡ c.pasts → CoresMove c d
@@ -146,9 +144,6 @@ parted-rises old new' (inl quiet) = quiet-rises old new' quiet
 parted-rises old new' (inr done) = installed-rises old new' done
 
 -- ---- commits, crashes, recoveries, joiners
-
-abbrev greens-in : Option Past → List Action
-greens-in o = option_map_or (λ x. x.greens) o []
 
 changed-greens : (c d : Chronicle) (change : Past → Past) (p : ℕ) → ((x : Past) → (change x).id ≡ x.id) → d.pasts ≡ changed_past change p c.pasts → length (greens-in (past_of c p)) ≤ length (greens-in (option_map change (past_of c p))) →
     (q : ℕ) → length (greens_of c q) ≤ length (greens_of d q)

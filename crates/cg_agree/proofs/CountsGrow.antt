@@ -56,24 +56,19 @@ use Rattle.cg_agree_lemmas.specs.WorldTurns.{IsBehind, hand-behind, from-same, h
 use Rattle.cg_agree_lemmas.specs.DiskSwaps.{Swaps, downgrade-swaps, recover_under-cases}
 use Rattle.cg_client.specs.Joined.{piece_count}
 use Rattle.cg_group.specs.RefusalLaws.{refuse_none}
+use Rattle.cg_model.specs.Attempts.{held_in}
+use Rattle.cg_agree_lemmas.specs.Looking.{life_in}
 
 -- the greens of a replica, as it runs or as its disk has them; none of one that hasn't begun
-abbrev pub held_at : NodeState → Held
-held_at (Up r disk) = r.held
-held_at (Down disk green) = disk.content
-
 abbrev pub count_at : Option Node → ℕ
-count_at o = option_map_or (λ s. green_count (held_at s.life).queue) o 0
-
-abbrev pub running_at : Option Node → Option Replica
-running_at o = option_and_then (λ s. running s.life) o
+count_at o = option_map_or (λ s. green_count (held_in s.life).queue) o 0
 
 -- so it is behind an event; and where the event doesn't move the replica it was up before if it is, unless it has no greens
 pub record CountGrows (moved : Bool) (a b : Option Node) : Type 0 where
   pub more : count_at a ≤ count_at b
   pub still : moved ≡ false → count_at b ≡ count_at a
-  pub begun : is_some b ≡ true → running_at b ≡ None → is_some a ≡ true
-  pub up : moved ≡ false → (r : Replica) → running_at b ≡ Some r → (count_at b ≡ 0) ⊎ ((x : Replica) × (running_at a ≡ Some x))
+  pub begun : is_some b ≡ true → life_in b ≡ None → is_some a ≡ true
+  pub up : moved ≡ false → (r : Replica) → life_in b ≡ Some r → (count_at b ≡ 0) ⊎ ((x : Replica) × (life_in a ≡ Some x))
 
 same-grows : (moved : Bool) (a b : Option Node) → b ≡ a → CountGrows moved a b
 same-grows moved a b e = subst (CountGrows moved a) (sym e) (record { more = (let same : count_at a ≤ count_at a = omega arith in same); still = λ none. refl; begun = λ some down. some; up = λ none r runs. inr (r, runs) })
@@ -86,7 +81,7 @@ pub record IsEven (start : List Weighted) (p : ℕ) (h disk : Held) : Type 0 whe
   pub same : green_count h.queue ≡ green_count disk.queue
 
 abbrev pub LifeEven : List Weighted → ℕ → NodeState → Type 0
-LifeEven start p l = IsEven start p (held_at l) (on_disk l)
+LifeEven start p l = IsEven start p (held_in l) (on_disk l)
 
 abbrev pub NodeEven : List Weighted → ℕ → Option Node → Type 0
 NodeEven start p o = IfSome o (λ s. LifeEven start p s.life)
@@ -135,7 +130,7 @@ turn-counts start p r disk input moved even none =
       count : green_count (whiten t.replica.held).queue ≡ green_count t.replica.held.queue
       count = whitened-count start r.held t.replica.held even.greens even.is (step-follows r input)
 
-      grows : (l : NodeState) → green_count (held_at l).queue ≡ green_count t.replica.held.queue → CountGrows moved (Some (record { id = p; life = Up r disk })) (Some (record { id = p; life = l }))
+      grows : (l : NodeState) → green_count (held_in l).queue ≡ green_count t.replica.held.queue → CountGrows moved (Some (record { id = p; life = Up r disk })) (Some (record { id = p; life = l }))
       grows l same = record { more = (let le = step-more r input in omega arith); still = λ idle. same ∙ none idle; begun = λ some down. refl; up = λ idle x runs. inr (r, refl) }
 
       lost : (d : Disk) (green : List ActionId) → green_count d.content.queue ≡ green_count r.held.queue → CountGrows moved (Some (record { id = p; life = Up r disk })) (Some (record { id = p; life = Down d green }))
@@ -177,16 +172,16 @@ begun-none set (p ∷ list) w none q = begun-none set list (begin_replica set w 
       let new : Option Node = Some (record { id = p; life = Up r (new_disk r.held) }) in
       ap count_at (node_of-set (name_also w p) p (Up r (new_disk r.held)) q) ∙ cond_both (p == q) new (node_of w q) (λ o. count_at o ≡ 0) (λ y. refl) (λ n. none q)
 
-begun-up : (set : List Weighted) (list : List ℕ) (w : World) → ((q : ℕ) → is_some (node_of w q) ≡ true → running_at (node_of w q) ≡ None → ⊥) → (q : ℕ) →
-    (let v = fold (begin_replica set) w list in is_some (node_of v q) ≡ true → running_at (node_of v q) ≡ None → ⊥)
+begun-up : (set : List Weighted) (list : List ℕ) (w : World) → ((q : ℕ) → is_some (node_of w q) ≡ true → life_in (node_of w q) ≡ None → ⊥) → (q : ℕ) →
+    (let v = fold (begin_replica set) w list in is_some (node_of v q) ≡ true → life_in (node_of v q) ≡ None → ⊥)
 begun-up set [] w none q = none q
 begun-up set (p ∷ list) w none q = begun-up set list (begin_replica set w p) one q where
-  one : (q : ℕ) → is_some (node_of (begin_replica set w p) q) ≡ true → running_at (node_of (begin_replica set w p) q) ≡ None → ⊥
+  one : (q : ℕ) → is_some (node_of (begin_replica set w p) q) ≡ true → life_in (node_of (begin_replica set w p) q) ≡ None → ⊥
   one q =
       let r = fresh p set in
       let new : Option Node = Some (record { id = p; life = Up r (new_disk r.held) }) in
-      subst (λ (o : Option Node). is_some o ≡ true → running_at o ≡ None → ⊥) (sym (node_of-set (name_also w p) p (Up r (new_disk r.held)) q))
-      (cond_both (p == q) new (node_of w q) (λ o. is_some o ≡ true → running_at o ≡ None → ⊥) (λ y some down. (let no_one : Some r ≡ None = down in cc)) (λ n. none q))
+      subst (λ (o : Option Node). is_some o ≡ true → life_in o ≡ None → ⊥) (sym (node_of-set (name_also w p) p (Up r (new_disk r.held)) q))
+      (cond_both (p == q) new (node_of w q) (λ o. is_some o ≡ true → life_in o ≡ None → ⊥) (λ y some down. (let no_one : Some r ≡ None = down in cc)) (λ n. none q))
 
 module _ (start : List Weighted) (w : World) (even : (p : ℕ) → NodeEven start p (node_of w p)) where
   Grows : World → (ℕ → Bool) → Type 0
@@ -347,7 +342,7 @@ module _ (c : Chronicle) (w : World) (stands : StandsBeside c w) where
       let before : (p : ℕ) → count_at (node_of w p) ≡ 0 = (λ p. ap (λ (x : World). count_at (node_of x p)) first) in
       let behind = begun-none set (ids set) w before q in
       let none = before q in
-      let first_up : (p : ℕ) → is_some (node_of w p) ≡ true → running_at (node_of w p) ≡ None → ⊥ = (λ p some down. clash (sym some ∙ ap (λ (x : World). is_some (node_of x p)) first)) in
+      let first_up : (p : ℕ) → is_some (node_of w p) ≡ true → life_in (node_of w p) ≡ None → ⊥ = (λ p some down. clash (sym some ∙ ap (λ (x : World). is_some (node_of x p)) first)) in
       record { more = omega arith; still = λ idle. behind ∙ sym none; begun = λ some down. absurd (begun-up set (ids set) w first_up q some down); up = λ idle r runs. inl behind }
 
   happens-counts : (e : Event) → MayStand w e → first_refusal w e ≡ None → Grows c.start w even-at (happens w e).world (may_move e)

@@ -35,7 +35,7 @@ use Rattle.cg_agree_lemmas.specs.EntryGreens.{nothing-new}
 use Rattle.cg_agree.proofs.ExchangeSmalls.{replica-behind}
 use Rattle.cg_agree.proofs.GreenLine.{regular-state}
 use Rattle.cg_agree_lemmas.specs.GroupKept.{leaving-regular}
-use Rattle.cg_agree_lemmas.specs.HandsKept.{regular-phase, regular-up, hosted}
+use Rattle.cg_agree_lemmas.specs.HandsKept.{regular-phase, hosted}
 use Rattle.cg_agree_lemmas.specs.InstallGreens.{yellow-greens, in-parting}
 use Rattle.cg_agree.proofs.InstalledParts.{waits-announced, oneself-before, installs-all}
 use Rattle.cg_agree.proofs.ModeKept.{mode_data-kept}
@@ -45,6 +45,7 @@ use Rattle.cg_agree_lemmas.specs.RecordKept.{turn-is}
 use Rattle.cg_agree_lemmas.specs.SameAttempt.{same-installation}
 use Rattle.cg_agree_lemmas.specs.TurnValues.{even-mark_yellow}
 use Rattle.cg_agree.proofs.ModeStates.{from-primary}
+use Rattle.cg_group.specs.RefusalLaws.{regular-up}
 
 -- ---- a member of a primary component marks nothing green in its parting
 

@@ -29,7 +29,7 @@ use Rattle.cg_agree_lemmas.specs.SmallTalk.{conf-there}
 use Rattle.cg_agree.proofs.TalkFactsKept.{mode_fits-kept}
 use Rattle.cg_agree.proofs.RegularEnds.{regular-phase_is}
 use Rattle.cg_agree.proofs.ModeStates.{from-primary}
-use Rattle.cg_agree_lemmas.specs.HandsKept.{regular-up}
+use Rattle.cg_group.specs.RefusalLaws.{regular-up}
 
 there : (o : Option Replica) → is_some o ≡ true → (r : Replica) × (o ≡ Some r)
 there None e = absurd (let clash : false ≡ true = e in cc)

@@ -26,6 +26,7 @@ use Rattle.cg_disk_records.specs.RunMarkLaws.{run-head, run-rest}
 use Rattle.cg_agree_lemmas.specs.OrderTold.{order_told}
 use Rattle.cg_agree.proofs.OneLine.{IsOnTop}
 use Rattle.cg_agree.proofs.OrderOnTop.{on_top-runs}
+use Rattle.cg_queue.specs.NameLaws.{names-count}
 
 -- ---- names that run on
 
@@ -77,10 +78,6 @@ pub names-take : (n : ℕ) (list : List Action) → names_of (take n list) ≡ t
 names-take zero list = refl
 names-take (suc n) [] = refl
 names-take (suc n) (a ∷ list) = ap (λ ids. a.id ∷ ids) (names-take n list)
-
-pub names-count : (list : List Action) → length (names_of list) ≡ length list
-names-count [] = refl
-names-count (a ∷ list) = ap suc (names-count list)
 
 -- the actions that the order names
 pub record IsOrderOf (c : Chronicle) (order : List ActionId) : Type 0 where

@@ -37,7 +37,7 @@ use Rattle.cg_model.specs.FactsReplica.{AreBooked}
 use Rattle.cg_model.specs.Played.{StandsBeside, AlwaysHolds}
 use Rattle.cg_agree_lemmas.specs.BookGrows.{IsNamed}
 use Rattle.cg_agree_lemmas.specs.BookedCores.{each-booked}
-use Rattle.cg_agree.proofs.CreatorNumbered.{stands-of, names-count}
+use Rattle.cg_agree.proofs.CreatorNumbered.{stands-of}
 use Rattle.cg_agree_lemmas.specs.FrontFacts.{take-Front}
 use Rattle.cg_agree_lemmas.specs.HeldAll.{yellow-named}
 use Rattle.cg_agree.proofs.LinesShown.{up-shown}
@@ -51,6 +51,7 @@ use Rattle.cg_agree.proofs.RunPrefix.{comes}
 use Rattle.cg_agree.proofs.TellsRun.{has-told}
 use Rattle.cg_agree_lemmas.specs.TurnRows.{each-named}
 use Rattle.cg_model.specs.RunLaws.{world-last}
+use Rattle.cg_queue.specs.NameLaws.{names-count}
 
 -- ---- the actions that a line names
 

@@ -1,6 +1,6 @@
 -- A disk has no greens that its replica hasn't, and of a replica that is down the disk is all: every small step keeps both.
 use Rattle.std.proofs.Common.{◌≡◌, ℕ, ◌≢◌, true, false, cond, not, List, [], ◌++◌, Option, Some, None, IfSome, option_map, refl, sym, ap, ◌∙◌, subst, inl, inr, eq-eqb}
-use Rattle.std.specs.Prelude.{◌==◌, option_and_then}
+use Rattle.std.specs.Prelude.{◌==◌}
 use Rattle.std.specs.Option.{option_map_or}
 use Rattle.std.proofs.lemmas.Bool.{cases_eq, cond-true, cond-false, ne_eqb, and_parts, not-true}
 use Rattle.cg_base.specs.declared.weighted.Weighted.{Weighted}
@@ -16,7 +16,7 @@ use Rattle.cg_disk_records.specs.Stored.{stored_of, whiten}
 use Rattle.cg_disk_records.specs.Crash.{Disk, new_disk, at_rest, recovered, disk_recovered}
 use Rattle.cg_model.specs.World.{NodeState, Up, Down, Node, running, node_of, replica_of, has_begun}
 use Rattle.cg_model.specs.Step.{joiner_replica, without_snapshot}
-use Rattle.cg_model.specs.Chronicle.{Past, Chronicle, no_chronicle}
+use Rattle.cg_model.specs.Chronicle.{Chronicle, no_chronicle}
 use Rattle.cg_model.specs.Looks.{past_of, greens_of, stood_of, on_disk, snapshot_of, copied_for}
 use Rattle.cg_model.specs.Fronts.{Front}
 use Rattle.cg_model.specs.FactsReplica.{DiskBehind}
@@ -30,15 +30,7 @@ use Rattle.cg_agree_lemmas.specs.OneselfWorld.{HavePasts, Rehosted, stood-same}
 use Rattle.cg_agree.proofs.BegunKept.{nothing-before}
 use Rattle.cg_agree_lemmas.specs.CoresKept.{node-of, greens-turn, past-here, past-there}
 use Rattle.cg_agree_lemmas.specs.CoresSmall.{nothing-green, nothing-stood}
-
-abbrev life_in : Option Node → Option Replica
-life_in o = option_and_then (λ s. running s.life) o
-
-abbrev greens-in : Option Past → List Action
-greens-in o = option_map_or (λ x. x.greens) o []
-
-abbrev stood-in : Option Past → List Action
-stood-in o = option_map_or (λ x. x.stood) o []
+use Rattle.cg_agree_lemmas.specs.Looking.{life_in, greens-in, stood-in, written-greens, written-stood, struck-stood, struck-greens}
 
 -- one replica has another life and other greens
 behind-moved : (c d : Chronicle) (p : ℕ) (life : NodeState) (now stood : List Action) → Rehosted c d p life now stood → Front stood now → (running life ≡ None → now ≡ stood) → DiskBehind c → DiskBehind d
@@ -89,22 +81,6 @@ behind-turning c b p part pasts old = at (node_of b.world p) refl where
   at (Some s) e = life s s.life refl e
 
 -- ---- commits, crashes, recoveries
-
-written-greens : (o : Option Past) → greens-in (option_map written o) ≡ greens-in o
-written-greens None = refl
-written-greens (Some x) = refl
-
-written-stood : (o : Option Past) → stood-in (option_map written o) ≡ greens-in o
-written-stood None = refl
-written-stood (Some x) = refl
-
-struck-stood : (o : Option Past) → stood-in (option_map struck o) ≡ stood-in o
-struck-stood None = refl
-struck-stood (Some x) = refl
-
-struck-greens : (o : Option Past) → greens-in (option_map struck o) ≡ stood-in o
-struck-greens None = refl
-struck-greens (Some x) = refl
 
 behind-commit : (c : Chronicle) (p : ℕ) (s : Node) → node_of c.world p ≡ Some s → (life : NodeState) → s.life ≡ life → DiskBehind c → DiskBehind (commit_as c p life)
 behind-commit c p s e (Down disk green) is old = old

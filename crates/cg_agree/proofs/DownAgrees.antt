@@ -18,7 +18,7 @@ use Rattle.cg_model.specs.Played.{AlwaysHolds}
 use Rattle.cg_model.specs.Run.{Step, IsRunFrom}
 use Rattle.cg_model.specs.Shown.{made_actions, made_names, order_of, position_of}
 use Rattle.cg_model.specs.World.{Down, NodeState, Node, World, life_of, no_world, node_of}
-use Rattle.cg_agree.proofs.CountsGrow.{count_at, held_at}
+use Rattle.cg_agree.proofs.CountsGrow.{count_at}
 use Rattle.cg_agree.proofs.DownGreens.{all-made, booked, core, prefix, reaches}
 use Rattle.cg_agree_lemmas.specs.FrontFacts.{Front-refl}
 use Rattle.cg_agree.proofs.OrderReached.{named-each, run-some}
@@ -26,7 +26,9 @@ use Rattle.cg_agree_lemmas.specs.OrderTold.{order_told}
 use Rattle.cg_agree.proofs.OrderedActions.{all-as, each-as}
 use Rattle.cg_agree.proofs.PositionsGrow.{is-placed}
 use Rattle.cg_agree.proofs.RedsShown.{HasShown, has-shown}
-use Rattle.cg_agree.proofs.RunSteps.{StandsFor, chronicle_of, stands-for, step-of, world_of}
+use Rattle.cg_agree.proofs.RunSteps.{StandsFor, stands-for, step-of}
+use Rattle.cg_model.specs.RunLaws.{world_of, chronicle_of}
+use Rattle.cg_model.specs.Attempts.{held_in}
 
 each-le : (w : World) (list : List Action) → Each (λ (a : Action). a.id.index ≤ index_in w.made a.id.creator) list → Each (λ (id : ActionId). nat_le id.index (index_in w.made id.creator) ≡ true) (names_of list)
 each-le w [] each = tt
@@ -54,7 +56,7 @@ module _ (always : AlwaysHolds) (steps : List Step) (run : IsRunFrom no_world st
   low = subst (λ n. position_of p steps ≤ n) (at (node_of (world_of steps) p) down) ((is-placed always steps run).placed p) where
     at : (o : Option Node) → option_map (λ s. s.life) o ≡ Some (Down disk green) → count_at o ≡ green_count q
     at None e = absurd (let clash : None ≡ Some (Down disk green) = e in cc)
-    at (Some s) e = ap (λ (o : Option NodeState). green_count (held_at (option_map_or (λ l. l) o s.life)).queue) e
+    at (Some s) e = ap (λ (o : Option NodeState). green_count (held_in (option_map_or (λ l. l) o s.life)).queue) e
 
   -- the actions of these names, as they were made
   actions : made_actions steps (take (green_count q) (order_recovered (order_of steps) disk green)) ≡ stood_of (chronicle_of steps) p

@@ -29,7 +29,8 @@ use Rattle.cg_agree_lemmas.specs.FrontFacts.{Front-length, Front-map, take-Front
 use Rattle.cg_agree_lemmas.specs.OrderExtends.{IsExtended, order-extends}
 use Rattle.cg_agree.proofs.OrderReached.{names-drop}
 use Rattle.cg_agree.proofs.RedsShown.{each-low}
-use Rattle.cg_agree_lemmas.specs.TurnGreens.{disk-count, names-count}
+use Rattle.cg_agree_lemmas.specs.TurnGreens.{disk-count}
+use Rattle.cg_queue.specs.NameLaws.{names-count}
 
 -- ---- lists of names
 

@@ -6,7 +6,6 @@ use Rattle.std.proofs.lemmas.Bool.{cases_Bool, cond-true, cond-false, and_parts,
 use Rattle.cg_base.specs.declared.weighted.Weighted.{Weighted}
 use Rattle.cg_base.specs.Text.{is_nil}
 use Rattle.cg_base.specs.Weights.{ids}
-use Rattle.cg_action.specs.declared.action.Action.{Action}
 use Rattle.cg_action.specs.declared.action.Kind.{Kind}
 use Rattle.cg_wire.specs.declared.message.Msg.{Msg}
 use Rattle.cg_group.specs.declared.phase.Phase.{Phase}
@@ -54,9 +53,7 @@ use Rattle.cg_agree.proofs.TalkAlone.{replica-set}
 use Rattle.cg_agree.proofs.TalkQuiet.{replica-turning}
 use Rattle.cg_agree_lemmas.specs.ToldKept.{told-same, told_in-same}
 use Rattle.cg_agree_lemmas.specs.TurnValues.{SameValues, even-settle, even-request}
-
-abbrev greens-in : Option Past → List Action
-greens-in o = option_map_or (λ x. x.greens) o []
+use Rattle.cg_agree_lemmas.specs.Looking.{greens-in}
 
 -- ---- what a part of a turn leaves
 

@@ -13,8 +13,9 @@ use Rattle.cg_model.specs.Played.{AlwaysHolds}
 use Rattle.cg_model.specs.Run.{Step, IsRunFrom}
 use Rattle.cg_model.specs.Shown.{order_of, ordered_actions}
 use Rattle.cg_model.specs.Agreement.{ComesAfter, through}
-use Rattle.cg_agree.proofs.RunSteps.{world_of, chronicle_of, step-of, StandsFor, stands-for}
+use Rattle.cg_agree.proofs.RunSteps.{step-of, StandsFor, stands-for}
 use Rattle.cg_agree.proofs.ShownActions.{ordered-shown}
+use Rattle.cg_model.specs.RunLaws.{world_of, chronicle_of}
 
 -- the greens of a replica that is up are a front of the order, and what they make is what it holds
 pub record IsInOrder (steps : List Step) (p : ℕ) (r : Replica) : Type 0 where

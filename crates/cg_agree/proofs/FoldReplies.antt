@@ -43,7 +43,7 @@ use Rattle.cg_agree_lemmas.specs.TurnWorlds.{life_at}
 use Rattle.cg_agree_lemmas.specs.TurnReplies.{db_behind, replies_in}
 use Rattle.cg_agree_lemmas.specs.RepliesPlaced.{IsIn, plain, times, times-both, reply_ids, ids_in}
 use Rattle.cg_agree_lemmas.specs.DiskEnds.{end-cases}
-use Rattle.cg_agree.proofs.RunSteps.{world_of, chronicle_of, IsStepAt, StandsFor, stands-for}
+use Rattle.cg_agree.proofs.RunSteps.{IsStepAt, StandsFor, stands-for}
 use Rattle.cg_agree_lemmas.specs.OwedNames.{own_name, is_behind}
 use Rattle.cg_agree_lemmas.specs.StepSays.{SaysSo}
 use Rattle.cg_agree_lemmas.specs.EventSays.{made_by, replies_by}
@@ -53,8 +53,10 @@ use Rattle.cg_agree_lemmas.specs.GreensBehind.{greens-through}
 use Rattle.cg_agree_lemmas.specs.LivesSince.{lives-next}
 use Rattle.cg_agree.proofs.OwedRun.{LivesAt, OwedAt, step-shows}
 use Rattle.cg_agree_lemmas.specs.NamesTimes.{named-times, times-named, times-passing, times-failing, times-once, in-times, times-contains, contains-in, placed-within, within-placed}
-use Rattle.cg_agree.proofs.OwedKept.{whitened-created, meets, runs-now, created-now, was, says, turned-lives, owed-next, owed-run}
+use Rattle.cg_agree.proofs.OwedKept.{meets, runs-now, created-now, was, says, turned-lives, owed-next, owed-run}
 use Rattle.cg_disk_records.specs.RunMarkLaws.{run-names}
+use Rattle.cg_model.specs.RunLaws.{world_of, chronicle_of}
+use Rattle.cg_disk_records.specs.HeldLaws.{whitened-created}
 
 -- ---- where a reply comes from
 

@@ -20,9 +20,10 @@ use Rattle.cg_model.specs.Agreement.{ComesAfter, through}
 use Rattle.cg_model.specs.Played.{AlwaysHolds}
 use Rattle.cg_agree_lemmas.specs.MadeAlone.{takes-part, is-running}
 use Rattle.cg_agree_lemmas.specs.HappensShown.{shown_by, step-shows, OfShown, each-shown}
-use Rattle.cg_agree.proofs.RunSteps.{world_of, chronicle_of, IsStepAt, step-of, StandsFor, stands-for}
+use Rattle.cg_agree.proofs.RunSteps.{IsStepAt, step-of, StandsFor, stands-for}
 use Rattle.cg_agree.proofs.FoldHeld.{own-fold}
 use Rattle.cg_base.specs.ElementLaws.{each-contains}
+use Rattle.cg_model.specs.RunLaws.{world_of, chronicle_of}
 
 -- a replica that shows itself stays as it is
 shows-still : (w : World) (p q : ℕ) → replica_of (world_step w (Show p)).world q ≡ replica_of w q

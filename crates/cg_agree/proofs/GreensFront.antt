@@ -1,11 +1,10 @@
 -- The greens of each replica go on at their end, behind each small step.
-use Rattle.std.proofs.Common.{◌≡◌, ℕ, true, false, List, [], ◌++◌, find, Option, Some, None, refl, sym, ap, ◌∙◌, subst, inl, inr, option_map, is_some}
+use Rattle.std.proofs.Common.{◌≡◌, ℕ, true, false, [], ◌++◌, find, Option, Some, None, refl, sym, ap, ◌∙◌, subst, inl, inr, option_map, is_some}
 use Rattle.std.specs.Prelude.{◌==◌}
 use Rattle.std.specs.Option.{option_map_or}
 use Rattle.std.proofs.lemmas.Bool.{cases_eq, cond-false, ne_eqb, and_parts}
 use Rattle.cg_base.specs.Text.{is_nil}
 use Rattle.cg_base.specs.Weights.{ids}
-use Rattle.cg_action.specs.declared.action.Action.{Action}
 use Rattle.cg_client.specs.Replica.{Held, Replica}
 use Rattle.cg_client.specs.Turn.{Turn, begin}
 use Rattle.cg_client.specs.Requests.{settle}
@@ -24,12 +23,10 @@ use Rattle.cg_agree_lemmas.specs.CoresKept.{node-of, greens-turn, past-here, pas
 use Rattle.cg_agree.proofs.BegunKept.{nothing-before}
 use Rattle.cg_agree_lemmas.specs.OneSteps.{may-join}
 use Rattle.cg_agree_lemmas.specs.TurnAlong.{commit-same}
+use Rattle.cg_agree_lemmas.specs.Looking.{greens-in}
 
 abbrev pub GreensGoOn : Chronicle → Chronicle → Type 0
 GreensGoOn c d = (p : ℕ) → Front (greens_of c p) (greens_of d p)
-
-abbrev greens-in : Option Past → List Action
-greens-in o = option_map_or (λ x. x.greens) o []
 
 same-front : (c d : Chronicle) (p : ℕ) → greens_of d p ≡ greens_of c p → Front (greens_of c p) (greens_of d p)
 same-front c d p e = subst (Front (greens_of c p)) (sym e) (Front-refl (greens_of c p))

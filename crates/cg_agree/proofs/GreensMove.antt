@@ -7,7 +7,6 @@ use Rattle.std.proofs.lemmas.Bool.{cases_eq, cond-true, cond-false, and_parts, n
 use Rattle.cg_base.specs.Weights.{ids}
 use Rattle.cg_base.specs.declared.weighted.Weighted.{Weighted}
 use Rattle.cg_base.specs.Text.{is_nil}
-use Rattle.cg_action.specs.declared.action.Action.{Action}
 use Rattle.cg_action.specs.declared.action.Kind.{Kind}
 use Rattle.cg_group.specs.State.{home, regular_in, configuration}
 use Rattle.cg_client.specs.Replica.{State, RegPrim, TransPrim, ExchangeStates, ExchangeActions, Construct, No, Un, NonPrim, Left, Replica}
@@ -31,7 +30,7 @@ use Rattle.cg_agree.proofs.ExchangeSmalls.{replica-behind}
 use Rattle.cg_agree_lemmas.specs.GreenMembers.{creates-same, drop-front}
 use Rattle.cg_agree.proofs.GreensFront.{crash-same}
 use Rattle.cg_agree_lemmas.specs.GroupKept.{leaving-regular}
-use Rattle.cg_agree_lemmas.specs.HandsKept.{regular-up, Sits, hosted}
+use Rattle.cg_agree_lemmas.specs.HandsKept.{Sits, hosted}
 use Rattle.cg_agree_lemmas.specs.HeldAll.{installed_by}
 use Rattle.cg_agree_lemmas.specs.HeldMarks.{IsOneself}
 use Rattle.cg_agree_lemmas.specs.OneSteps.{may-join}
@@ -41,6 +40,8 @@ use Rattle.cg_agree_lemmas.specs.RecordKept.{enters-between, turn-is}
 use Rattle.cg_agree.proofs.TellersStill.{turn-same}
 use Rattle.cg_agree_lemmas.specs.TurnKinds.{HasInstalled}
 use Rattle.cg_agree_lemmas.specs.TurnAlong.{commit-same}
+use Rattle.cg_group.specs.RefusalLaws.{regular-up}
+use Rattle.cg_agree_lemmas.specs.Looking.{greens-in}
 
 -- a replica has installed its attempt as it parted
 pub record InstalledLate (c d : Chronicle) (q : ℕ) : Type 0 where
@@ -57,9 +58,6 @@ pub data GreensMove (c d : Chronicle) (q : ℕ) : Type 0 where
   IsHanded : (may : may_make c (Hands q) ≡ true) (step : d ≡ small_step c (Hands q)) → GreensMove c d q
   Parts : (late : InstalledLate c d q) → GreensMove c d q
   Begins : (none : has_begun c.world q ≡ false) (greens : (greens_of d q ≡ []) ⊎ ((is_some (snapshot_of c.world q) ≡ true) × (greens_of d q ≡ copied_for c q))) → GreensMove c d q
-
-abbrev greens-in : Option Past → List Action
-greens-in o = option_map_or (λ x. x.greens) o []
 
 -- ---- turns in which nothing becomes green
 

@@ -1,5 +1,5 @@
 -- A replica that is handed no green item beyond a place has no more greens than that, or comes to be in a primary component.
-use Rattle.std.proofs.Common.{◌⊎◌, ◌≡◌, ℕ, suc, ◌+◌, ◌≤◌, Bool, true, false, cond, List, [], ◌∷◌, ◌++◌, fold, length, Option, Some, None, refl, sym, ap, ap₂, ◌∙◌, subst, inl, inr, arith, eqb-true}
+use Rattle.std.proofs.Common.{◌⊎◌, ◌≡◌, ℕ, suc, ◌+◌, ◌≤◌, Bool, true, false, cond, List, [], ◌∷◌, ◌++◌, fold, length, refl, sym, ap, ap₂, ◌∙◌, subst, inl, inr, arith, eqb-true}
 use Rattle.std.specs.Prelude.{◌==◌}
 use Rattle.std.proofs.lemmas.Bool.{cond_both}
 use Rattle.std.proofs.lemmas.List.{length-append}
@@ -7,11 +7,10 @@ use Rattle.cg_base.specs.Lists.{Each}
 use Rattle.cg_base.specs.Sets.{has, is_within, with_member}
 use Rattle.cg_action.specs.declared.action.Action.{Action}
 use Rattle.cg_action.specs.declared.action.Kind.{Kind}
-use Rattle.cg_queue.specs.Queue.{marked_yellow, green_count}
+use Rattle.cg_queue.specs.Queue.{green_count}
 use Rattle.cg_knowledge.specs.declared.summary.Summary.{Summary}
 use Rattle.cg_knowledge.specs.Summaries.{gone, senders}
 use Rattle.cg_knowledge.specs.Verdict.{decides}
-use Rattle.cg_plan.specs.declared.parts.Part.{Part}
 use Rattle.cg_plan.specs.Plan.{plan_of}
 use Rattle.cg_plan.specs.Progress.{is_done, turn_of}
 use Rattle.cg_wire.specs.declared.message.Msg.{Msg}
@@ -20,7 +19,7 @@ use Rattle.cg_group.specs.declared.delivery.Delivery.{Delivery}
 use Rattle.cg_group.specs.declared.delivery.Delivery.TheVariants.{Message, Transitional as TransitionalIn, Regular as RegularIn}
 use Rattle.cg_client.specs.Replica.{Held, State, RegPrim, TransPrim, ExchangeStates, ExchangeActions, Construct, No, Un, NonPrim, Left, Replica}
 use Rattle.cg_client.specs.Turn.{Turn, begin, with_held, go_to}
-use Rattle.cg_client.specs.Marks.{is_unmade, can_be_green, marked, mark_red, mark_yellow, place_green, mark_green}
+use Rattle.cg_client.specs.Marks.{is_unmade, can_be_green, mark_red, mark_yellow, place_green, mark_green}
 use Rattle.cg_client.specs.Summary.{redden, own_to_red, enter_exchange}
 use Rattle.cg_client.specs.Install.{install}
 use Rattle.cg_client.specs.Requests.{is_creating, create, create_kept, empty_buffer, settle}
@@ -34,7 +33,8 @@ use Rattle.cg_states.specs.ReplicaStep.{Deliveries, replica_step, on_message, on
 use Rattle.cg_model.specs.FactsReplica.{is_primary}
 use Rattle.cg_agree_lemmas.specs.GreenMembers.{SameMembers, redden-same, own-same, creates-same}
 use Rattle.cg_agree.proofs.ItemsReached.{IsItemWithin}
-use Rattle.cg_agree_lemmas.specs.PartingNo.{state-marked}
+use Rattle.cg_agree_lemmas.specs.PartingNo.{state-yellow}
+use Rattle.cg_agree_lemmas.specs.ExchangeHands.{sent-replica}
 
 abbrev pub count : Turn → ℕ
 count t = green_count t.replica.held.queue
@@ -47,10 +47,6 @@ same-count : (old new : Held) → SameMembers old new → green_count new.queue 
 same-count old new same = ap₂ (λ n list. n + length list) same.white same.greens
 
 -- ---- marks
-
-yellow-state : (t : Turn) (a : Action) → (mark_yellow t a).replica.state ≡ t.replica.state
-unfolding mark_yellow
-yellow-state t a = cond_both (is_unmade t.replica.held a) t (marked t a (marked_yellow t.replica.held.queue a)) (λ u. u.replica.state ≡ t.replica.state) (λ y. refl) (λ n. state-marked t a (marked_yellow t.replica.held.queue a))
 
 green-state : (t : Turn) (a : Action) → (mark_green t a).replica.state ≡ t.replica.state
 unfolding mark_green place_green
@@ -66,11 +62,6 @@ unfolding mark_red
 red-count t a = cond_both (is_unmade t.replica.held a) t (redden t a) (λ u. count u ≡ count t) (λ y. refl) (λ n. same-count t.replica.held (redden t a).replica.held (redden-same t a))
 
 -- ---- an exchange
-
-part-same : (t : Turn) (o : Option Part) → (send_part t o).replica ≡ t.replica
-unfolding send_part
-part-same t None = refl
-part-same t (Some part) = refl
 
 decide-count : (t : Turn) (conf : ℕ) (summaries : List Summary) → count (decide t conf summaries) ≡ count t
 unfolding decide attempt
@@ -89,7 +80,7 @@ go_on-count t conf summaries accepted =
     let o = turn_of (plan_of summaries) t.replica.held.id accepted in
     let there = go_to t (ExchangeActions conf summaries accepted) in
     let sent = send_part there o in
-    let same : count sent ≡ count t = ap (λ (r : Replica). green_count r.held.queue) (part-same there o) in
+    let same : count sent ≡ count t = ap (λ (r : Replica). green_count r.held.queue) (sent-replica there o) in
     cond_both (is_done (progress summaries accepted)) (end_plan sent conf summaries) sent (λ u. count u ≡ count t) (λ y. end-count sent conf summaries ∙ same) (λ n. same)
 
 item-count : (n : ℕ) (t : Turn) (summaries : List Summary) (m : Msg) → IsItemWithin n m → count t ≤ n → count (take_item t summaries m) ≤ n
@@ -174,7 +165,7 @@ module _ (n : ℕ) (t : Turn) (still : IsStill n t) where
   others-still RegPrim from (GreenItem place a) is within = still
   others-still RegPrim from (RedItem a) is within = still
   others-still RegPrim from (Cpc id at) is within = still
-  others-still TransPrim from (ActionMsg a) is within = inside TransPrim is refl (mark_yellow t a) (yellow-state t a)
+  others-still TransPrim from (ActionMsg a) is within = inside TransPrim is refl (mark_yellow t a) (state-yellow t a)
   others-still TransPrim from (StateMsg s) is within = still
   others-still TransPrim from (GreenItem place a) is within = still
   others-still TransPrim from (RedItem a) is within = still

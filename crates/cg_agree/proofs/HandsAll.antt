@@ -27,11 +27,12 @@ use Rattle.cg_model.specs.FactsTalk.{handed_talk, Content, ActsNumbered, IsState
 use Rattle.cg_model.specs.Small.{Hands, small_step}
 use Rattle.cg_model.specs.Smalls.{may_make}
 use Rattle.cg_agree.proofs.HandsActs.{hands-acts}
-use Rattle.cg_agree_lemmas.specs.HandsKept.{CanAnswer, regular-phase, regular-up, hosted, some-at, next-there, attempt-named, hands-kept}
+use Rattle.cg_agree_lemmas.specs.HandsKept.{CanAnswer, regular-phase, hosted, some-at, next-there, attempt-named, hands-kept}
 use Rattle.cg_agree_lemmas.specs.HandsSent.{hands-content}
 use Rattle.cg_agree_lemmas.specs.HandsTalk.{HandsAt, step-is, state-is}
 use Rattle.cg_agree_lemmas.specs.HandsOwn.{none-in_states, none-in_actions}
 use Rattle.cg_agree_lemmas.specs.TalkSame.{said-of, talk-from}
+use Rattle.cg_group.specs.RefusalLaws.{regular-up}
 
 -- who comes to the end of the plan by the place that is handed, and hasn't left, knows then all that some member knew
 abbrev pub KnowsAtEnd : Chronicle → ℕ → Type 0

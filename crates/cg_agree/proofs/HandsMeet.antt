@@ -42,7 +42,6 @@ use Rattle.cg_model.specs.Total.{fits_red, fits_green, fits_item, CanInstall, ke
 use Rattle.cg_agree.proofs.ActsNext.{numbered-next}
 use Rattle.cg_agree.proofs.AnswersOwn.{few-summary, due-green, due-red, still, answer-there}
 use Rattle.cg_agree.proofs.ExchangeThere.{may, id, state, oneself, up, in_exchange, in-states, in-actions, heard_before, heard_behind, best, near, unmoved-behind, before-item, behind-green, behind-red, take-here, next-due}
-use Rattle.cg_agree_lemmas.specs.HandSays.{has_part}
 use Rattle.cg_agree_lemmas.specs.HandState.{kept-mark_red}
 use Rattle.cg_agree_lemmas.specs.HandTalk.{id-mark_green_at, id-take_item}
 use Rattle.cg_agree_lemmas.specs.HandsKept.{attempt-named}
@@ -60,7 +59,7 @@ done-all : (heard : List Summary) (k : ℕ) → is_done (progress heard k) ≡ t
 unfolding is_done
 done-all heard k e = leb-true (length (items_of_plan (plan_of heard))) k e
 
-same-part : (q : QueueView) (o : Option Part) → has_part q o ≡ keeps_part q o
+same-part : (q : QueueView) (o : Option Part) → keeps_part q o ≡ keeps_part q o
 same-part q None = refl
 same-part q (Some part) = refl
 
@@ -73,7 +72,7 @@ unless-so P true is = tt
 unless-so P false is = is refl
 
 -- a member goes on with its part, and takes over the names at the end
-goes-on : (t : Turn) (p : ℕ) (heard : List Summary) (k : ℕ) → t.replica.held.id ≡ p → has_part t.replica.held.queue (turn_of (plan_of heard) p k) ≡ true →
+goes-on : (t : Turn) (p : ℕ) (heard : List Summary) (k : ℕ) → t.replica.held.id ≡ p → keeps_part t.replica.held.queue (turn_of (plan_of heard) p k) ≡ true →
     (is_done (progress heard k) ≡ true → has (gone heard) p ≡ false → usable_names t.replica.held.queue (common_yellow heard).list ≡ (common_yellow heard).list) → GoesOn t heard k
 goes-on t p heard k named there usable = record {
   sends = ap (λ me. keeps_part t.replica.held.queue (turn_of (plan_of heard) me k)) named ∙ sym (same-part t.replica.held.queue (turn_of (plan_of heard) p k)) ∙ there;

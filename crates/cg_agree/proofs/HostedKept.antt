@@ -36,7 +36,8 @@ use Rattle.cg_agree_lemmas.specs.Keyed.{found-changed}
 use Rattle.cg_agree.proofs.MoreThere.{NoneBegins, begun-same, begun-kept}
 use Rattle.cg_agree_lemmas.specs.OneSteps.{MayJoin, may-join, may-enter, begun-set, running-begun}
 use Rattle.cg_agree_lemmas.specs.UnorderedKept.{regular-where_ordered, first-none, refused-not}
-use Rattle.cg_agree_lemmas.specs.HandsKept.{regular-up}
+use Rattle.cg_group.specs.RefusalLaws.{regular-up}
+use Rattle.cg_agree_lemmas.specs.CoresSmall.{snapshots-begun}
 
 -- ---- pasts
 
@@ -282,10 +283,6 @@ hosted-joins c joiner may old = subst (λ (o : Option TransferState). Hosted (op
 disks-begun : (set : List Weighted) (replicas : List ℕ) (w : World) → OwnDisks w → OwnDisks (fold (begin_replica set) w replicas)
 disks-begun set [] w old = old
 disks-begun set (p ∷ replicas) w old = disks-begun set replicas (begin_replica set w p) (disks-set w p (Up (fresh p set) (new_disk (fresh p set).held)) refl old)
-
-snapshots-begun : (set : List Weighted) (replicas : List ℕ) (w : World) → (fold (begin_replica set) w replicas).snapshots ≡ w.snapshots
-snapshots-begun set [] w = refl
-snapshots-begun set (p ∷ replicas) w = snapshots-begun set replicas (begin_replica set w p)
 
 begun-where : (set : List Weighted) (replicas : List ℕ) (w : World) (q : ℕ) → has_begun (fold (begin_replica set) w replicas) q ≡ cond (has replicas q) true (has_begun w q)
 begun-where set [] w q = refl

@@ -46,7 +46,7 @@ use Rattle.cg_agree_lemmas.specs.ReachWorld.{when-is}
 use Rattle.cg_agree_lemmas.specs.StatesSaid.{announcing}
 use Rattle.cg_agree.proofs.ToldBeside.{told-fits}
 use Rattle.cg_disk_records.specs.Holds.{cut_behind}
-use Rattle.cg_agree_lemmas.specs.TurnGreens.{names-count}
+use Rattle.cg_queue.specs.NameLaws.{names-count}
 
 -- ---- lists
 

@@ -33,7 +33,7 @@ use Rattle.cg_agree.proofs.ExchangeSmalls.{replica-behind}
 use Rattle.cg_agree.proofs.FactsKept.{attempt-now}
 use Rattle.cg_agree.proofs.GreenLine.{regular-state, line-before, conf-before, in-primary}
 use Rattle.cg_agree_lemmas.specs.GroupKept.{leaving-regular}
-use Rattle.cg_agree_lemmas.specs.HandsKept.{regular-phase, regular-up, hosted}
+use Rattle.cg_agree_lemmas.specs.HandsKept.{regular-phase, hosted}
 use Rattle.cg_agree.proofs.InstalledCountKept.{installed_count-kept}
 use Rattle.cg_agree.proofs.LeaverOutside.{acts_at, covers-outside}
 use Rattle.cg_agree.proofs.LeaverReach.{out-received}
@@ -48,6 +48,7 @@ use Rattle.cg_agree_lemmas.specs.RecordKept.{turn-is}
 use Rattle.cg_agree_lemmas.specs.SameAttempt.{same-installation}
 use Rattle.cg_agree.proofs.TransKept.{TransAt, LeaverCovers}
 use Rattle.cg_agree_lemmas.specs.TurnKinds.{HasInstalled}
+use Rattle.cg_group.specs.RefusalLaws.{regular-up}
 
 -- Behind the parting of a regular member of a primary component, which has received a row of places up to this last one, its yellow names
 -- begin with those of the actions at the places of that row that it hadn't been handed.

@@ -36,7 +36,7 @@ use Rattle.cg_model.specs.Smalls.{may_make, implies, ascend_within, hold_receive
 use Rattle.cg_agree_lemmas.specs.CreatesTalk.{grows-all}
 use Rattle.cg_agree_lemmas.specs.GroupKept.{leaving-regular}
 use Rattle.cg_agree_lemmas.specs.HandNext.{legal-at}
-use Rattle.cg_agree_lemmas.specs.HandsKept.{regular-phase, hosted, attempt-named, regular-up}
+use Rattle.cg_agree_lemmas.specs.HandsKept.{regular-phase, hosted, attempt-named}
 use Rattle.cg_agree_lemmas.specs.PartingNo.{is_past, Waits, IsAnnouncement, alone-places, left-places, past-places, places-wait, places-heard}
 use Rattle.cg_agree.proofs.TalkAlone.{replica-set}
 use Rattle.cg_agree_lemmas.specs.TalkApart.{transitional-now}
@@ -44,6 +44,7 @@ use Rattle.cg_agree_lemmas.specs.TalkEarly.{all-member}
 use Rattle.cg_agree.proofs.TalkQuiet.{parted, leaves-apart, talk-leaves}
 use Rattle.cg_agree_lemmas.specs.TalkSame.{said-of}
 use Rattle.cg_agree_lemmas.specs.PlacesBegin.{implied}
+use Rattle.cg_group.specs.RefusalLaws.{regular-up}
 
 -- ---- where an announcement stands
 

@@ -47,12 +47,9 @@ use Rattle.cg_agree.proofs.AttemptSteps.{Installing, hands-installing, leaves-in
 use Rattle.cg_agree.proofs.BegunKept.{nothing-before}
 use Rattle.cg_agree.proofs.AttemptsCame.{ins-conf}
 use Rattle.cg_agree.proofs.LevelsOpen.{opened-kept, opens-kept, place-within, some-installed}
+use Rattle.cg_agree_lemmas.specs.LinesFollow.{NotStart}
 
 -- ---- the servers of the start stay
-
-abbrev pub NotStart : Small → Type 0
-NotStart (Starts set) = ⊥
-NotStart _ = Unit {0}
 
 start-some : {X : Type 0} (o : Option X) (change : X → Chronicle) (c : Chronicle) → ((x : X) → (change x).start ≡ c.start) → (option_map_or change o c).start ≡ c.start
 start-some None change c each = refl

@@ -44,7 +44,6 @@ use Rattle.cg_agree.proofs.NetFactsKept.{hosted-in, members_begun-in}
 use Rattle.cg_agree.proofs.DiskBehindKept.{disk_behind-kept}
 use Rattle.cg_agree.proofs.LevelsKept.{start-kept}
 use Rattle.cg_agree.proofs.CoresMove.{cores-move}
-use Rattle.cg_agree_lemmas.specs.KeptEmpty.{anything}
 use Rattle.cg_agree_lemmas.specs.TurnRows.{of-deliveries}
 use Rattle.cg_agree_lemmas.specs.CreatedKept.{StaysCreated, created-rule, created-first}
 use Rattle.cg_agree_lemmas.specs.HeldMarks.{IsOneself}
@@ -56,24 +55,23 @@ use Rattle.cg_agree_lemmas.specs.BookedCores.{each-booked, front-each}
 use Rattle.cg_agree.proofs.CopiesBooked.{UnbegunMadeNone, greens-on_line, joiners-booked}
 use Rattle.cg_agree.proofs.MadeOnceKept.{made_once-kept}
 use Rattle.cg_disk_records.specs.Holds.{run_on}
+use Rattle.cg_model.specs.RowLaws.{any-deliveries}
+use Rattle.cg_agree_lemmas.specs.StepMakes.{IsOwnNow}
 
 -- ---- the actions that a turn makes
 
 -- each is of the replica, and has its green count as its line
-abbrev IsMine : Held → Action → Type 0
-IsMine h a = (a.id.creator ≡ h.id) × (a.green_line ≡ green_count h.queue)
-
 record MakesMine (old : Held) (t : Turn) : Type 0 where
   pub id : t.replica.held.id ≡ old.id
   pub count : green_count t.replica.held.queue ≡ green_count old.queue
-  pub made : Each (IsMine old) t.made
+  pub made : Each (IsOwnNow old) t.made
 
 create-mine : (old : Held) (t : Turn) (kind : Kind) → MakesMine old t → MakesMine old (create t kind)
 unfolding create
 create-mine old t kind is = record {
   id = is.id;
   count = is.count;
-  made = Each-append (IsMine old) t.made (next_action t.replica.held kind ∷ []) is.made ((is.id, is.count), tt);
+  made = Each-append (IsOwnNow old) t.made (next_action t.replica.held kind ∷ []) is.made ((is.id, is.count), tt);
 }
 
 creates-mine : (old : Held) (list : List Kind) (t : Turn) → MakesMine old t → MakesMine old (fold create t list)
@@ -130,8 +128,8 @@ module _ (c : Chronicle) (i : Invariant c) (line : ℕ → ℕ) (high : (q : ℕ
     named = (subst (λ (o : Option Replica). IfSome o (IsModeData c p)) here (i.replica.mode_data p)).id
 
     mine-low : (t : Turn) → MakesMine r.held t → Each IsLow t.made
-    mine-low t is = Each-weaker (IsMine r.held) IsLow each t.made is.made where
-      each : (a : Action) → IsMine r.held a → a.green_line ≤ line a.id.creator
+    mine-low t is = Each-weaker (IsOwnNow r.held) IsLow each t.made is.made where
+      each : (a : Action) → IsOwnNow r.held a → a.green_line ≤ line a.id.creator
       each a of =
           let count : green_count r.held.queue ≡ length (greens_of c p) = ap (λ xs. r.held.queue.white + length xs) core.made_of.kept ∙ length-dropped r.held.queue.white (greens_of c p) core.made_of.white in
           let up = high p in
@@ -141,7 +139,7 @@ module _ (c : Chronicle) (i : Invariant c) (line : ℕ → ℕ) (high : (q : ℕ
     takes-low : (list : List (Delivery Msg)) → Each IsLow (take_all list (begin r)).made
     takes-low list =
         let oneself : IsOneself c.start r.held (greens_of c p) = record { made_of = core.made_of; contiguous = core.contiguous; yellow_closed = core.yellow_closed } in
-        let now = of-deliveries (StaysCreated r.held) (λ a. Unit {0}) (created-rule r.held) (begin r) list (anything list) (record { held = created-first c.start r.held (greens_of c p) oneself; made = refl }) in
+        let now = of-deliveries (StaysCreated r.held) (λ a. Unit {0}) (created-rule r.held) (begin r) list (any-deliveries list) (record { held = created-first c.start r.held (greens_of c p) oneself; made = refl }) in
         subst (Each IsLow) (sym now.made) tt
 
   low-turning : (b : Chronicle) (p : ℕ) (part : Turn → Turn) → b.world.nodes ≡ c.world.nodes → b.book ≡ c.book →

@@ -1,9 +1,8 @@
 -- Behind each step of a run the last printed line of each replica is the last one that was shown, and is its line as it stands.
-use Rattle.std.proofs.Common.{◌≡◌, ℕ, suc, ◌<◌, ◌≤◌, Bool, true, false, cond, List, [], ◌∷◌, ◌++◌, map, filter, find, fold, Option, Some, None, IfSome, refl, sym, ap, ◌∙◌, subst, inl, inr, arith, eq-eqb, option_map, option_and_then}
+use Rattle.std.proofs.Common.{◌≡◌, ℕ, suc, ◌<◌, ◌≤◌, Bool, true, false, cond, List, [], ◌∷◌, map, filter, find, fold, Option, Some, None, IfSome, refl, sym, ap, ◌∙◌, subst, inl, inr, arith, eq-eqb, option_map, option_and_then}
 use Rattle.std.specs.Prelude.{◌==◌}
-use Rattle.std.specs.Option.{option_map_or, option_or}
+use Rattle.std.specs.Option.{option_map_or}
 use Rattle.std.proofs.lemmas.Bool.{cases_eq, cases_Bool, cond-true, cond-false, ne_eqb, not-false}
-use Rattle.std.proofs.lemmas.List.{append-nil, append_assoc}
 use Rattle.std.proofs.lemmas.List.Sums.{fold-append}
 use Rattle.cg_base.specs.Lists.{Each}
 use Rattle.cg_base.specs.EachLaws.{Each-weaker, Each-filter}
@@ -28,13 +27,14 @@ use Rattle.cg_model.specs.FactsLists.{IsRising}
 use Rattle.cg_model.specs.Agreement.{through}
 use Rattle.cg_model.specs.Noting.{chronicle_step}
 use Rattle.cg_model.specs.Played.{StandsBeside}
-use Rattle.cg_model.specs.Telling.{latest, last_line, last_of, printed}
+use Rattle.cg_model.specs.Telling.{latest, last_line, printed}
 use Rattle.cg_model.specs.Show.{new_lines}
 use Rattle.cg_agree.proofs.PrimaryOne.{IsFoundFrom, found-all}
 use Rattle.cg_agree.proofs.RunForward.{IsStepOf}
 use Rattle.cg_equalities.specs.LineLaws.{one-line}
 use Rattle.cg_agree_lemmas.specs.HappensLines.{happens-lines}
 use Rattle.cg_agree_lemmas.specs.NodeFacts.{node-id}
+use Rattle.cg_model.specs.ShowLaws.{lines-last, IsLastUp, last-up}
 
 -- ---- lines that are printed
 
@@ -170,10 +170,6 @@ pub record AreLinesTold (earlier : List Step) (w : World) : Type 0 where
   pub shown : (p : ℕ) → printed w p ≡ last_line p earlier
   pub stand : ArePrinted w
 
-pub lines-last : (earlier : List Step) (s : Step) → lines_in (through earlier s) ≡ lines_in earlier ++ s.entry.lines
-lines-last [] s = append-nil s.entry.lines
-lines-last (x ∷ earlier) s = ap (λ list. x.entry.lines ++ list) (lines-last earlier s) ∙ sym (append_assoc x.entry.lines (lines_in earlier) s.entry.lines)
-
 pub lines-on : (earlier : List Step) (c : Chronicle) (w : World) (s : Step) → IsStepOf c w s → AreLinesTold earlier w → AreLinesTold (through earlier s) s.world
 lines-on earlier c w s step told = record {
   shown = λ p. step-printed w s step.moved p ∙ ap (λ o. fold (latest p) o s.entry.lines) (told.shown p)
@@ -193,19 +189,6 @@ each-find P t (x ∷ xs) s each e = elim (cases_Bool (t x)) [
 ]
 
 -- the last line, if it is of one that is up, is the last one of it up
-abbrev IsLastUp : Option Line → Option UpLine → Type 0
-IsLastUp last up = IfSome last (λ l. IfSome l.up (λ u. up ≡ Some u))
-
-last-up : (p : ℕ) (lines : List Line) (last : Option Line) (up : Option UpLine) → IsLastUp last up → IsLastUp (fold (latest p) last lines) (fold (last_of p) up lines)
-last-up p [] last up is = is
-last-up p (l ∷ lines) last up is = last-up p lines (latest p last l) (last_of p up l) (elim (cases_eq l.id p) [
-  | inl mine ↦ subst (λ b. IsLastUp (cond b (Some l) last) (cond b (option_or l.up up) up)) (sym (eq-eqb l.id p mine)) (of l.up refl)
-  | inr other ↦ subst (λ b. IsLastUp (cond b (Some l) last) (cond b (option_or l.up up) up)) (sym (ne_eqb l.id p other)) is
-]) where
-  of : (o : Option UpLine) → l.up ≡ o → IfSome l.up (λ u. option_or l.up up ≡ Some u)
-  of None e = subst (λ (o : Option UpLine). IfSome o (λ u. option_or o up ≡ Some u)) (sym e) tt
-  of (Some x) e = subst (λ (o : Option UpLine). IfSome o (λ u. option_or o up ≡ Some u)) (sym e) refl
-
 -- the last line of a replica that is up
 pub up-shown : (w : World) (steps : List Step) → ((p : ℕ) → printed w p ≡ last_line p steps) → ArePrinted w → (p : ℕ) (r : Replica) → replica_of w p ≡ Some r → IsSomeWith (last_up p steps) (λ up. up.view ≡ view_of r.held)
 up-shown w steps shown stand p r runs = at (node_of w p) refl runs where

@@ -44,7 +44,6 @@ use Rattle.cg_agree.proofs.AttemptSteps.{group-of}
 use Rattle.cg_agree_lemmas.specs.OneSteps.{may-join}
 use Rattle.cg_agree.proofs.BegunKept.{nothing-before}
 use Rattle.cg_agree_lemmas.specs.DiskAhead.{OwnRuns}
-use Rattle.cg_agree_lemmas.specs.KeptEmpty.{anything}
 use Rattle.cg_agree_lemmas.specs.TurnRows.{of-deliveries}
 use Rattle.cg_agree.proofs.MessagesKept.{DoWait, ArePlaced, TurnSays, StepSays, waits-kept, placed-kept}
 use Rattle.cg_agree_lemmas.specs.CreatedKept.{StaysCreated, created-rule, created-first}
@@ -53,6 +52,7 @@ use Rattle.cg_agree_lemmas.specs.BookGrows.{IsNamed, cut_of, rising-of, IsCounte
 use Rattle.cg_agree_lemmas.specs.BookedCores.{FineHeld, JoinersBooked, cores-booked, booked-closed, placed-booked, waiting-booked, greens-booked, memory-booked, disk-booked, copies-booked, messages-booked, waits-booked}
 use Rattle.cg_agree_lemmas.specs.BookCounts.{BookCounts, counts-same, counts-turning, book-turn, counts-commit, counts-crash, counts-recover, counts-join, counts-start}
 use Rattle.cg_disk_records.specs.RunLaws.{cut_behind-append}
+use Rattle.cg_model.specs.RowLaws.{any-deliveries}
 
 -- ---- requests
 
@@ -178,7 +178,7 @@ module _ (c : Chronicle) (i : Invariant c) (joiners : JoinersBooked c) where
     takes-sound list come =
         let t = take_all list (begin r) in
         let Fine = IsNamed (c.book ++ t.made) in
-        let created_now = of-deliveries (StaysCreated r.held) (λ a. Unit {0}) (created-rule r.held) (begin r) list (anything list) (record { held = created-first c.start r.held (greens_of c p) oneself; made = refl }) in
+        let created_now = of-deliveries (StaysCreated r.held) (λ a. Unit {0}) (created-rule r.held) (begin r) list (any-deliveries list) (record { held = created-first c.start r.held (greens_of c p) oneself; made = refl }) in
         let same : c.book ++ t.made ≡ c.book = ap (λ xs. c.book ++ xs) created_now.made ∙ append-nil c.book in
         record {
           fine = of-deliveries (AllFine Fine) Fine (fine-rule Fine) (begin r) list

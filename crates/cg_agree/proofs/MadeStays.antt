@@ -1,13 +1,12 @@
 -- A made action stands on each later line of its creator: own, red, yellow, or in the creator's prefix of the order.
-use Rattle.std.proofs.Common.{◌≡◌, ℕ, zero, suc, ◌-◌, ◌≤◌, true, ◌&&◌, List, [], ◌∷◌, ◌++◌, map, take, length, Option, Some, None, IfSome, Contains, slice_index_or, refl, sym, ap, ap₂, ◌∙◌, subst, arith, append_assoc, append-nil, ◌<◌, ⊎_elim}
+use Rattle.std.proofs.Common.{◌≡◌, ℕ, zero, suc, ◌-◌, ◌≤◌, true, ◌&&◌, List, [], ◌∷◌, ◌++◌, map, take, length, Option, Some, None, IfSome, Contains, refl, sym, ap, ap₂, ◌∙◌, subst, arith, append_assoc, append-nil, ◌<◌, ⊎_elim}
 use Rattle.std.specs.Prelude.{nat_lt, nat_le}
-use Rattle.std.proofs.lemmas.Bool.{and_parts, or_left, or_right, ltb-true, leb-true}
+use Rattle.std.proofs.lemmas.Bool.{and_parts, ltb-true, leb-true}
 use Rattle.std.proofs.lemmas.Grind.{flat_map-append}
 use Rattle.std.proofs.lemmas.List.{map-append}
 use Rattle.std.proofs.lemmas.List.Elements.{Contains-append_left, Contains-append_cases}
 use Rattle.cg_base.specs.declared.action_id.ActionId.{ActionId}
-use Rattle.cg_base.specs.Ids.{has_name, same_id}
-use Rattle.cg_base.specs.IdLaws.{same_id-true}
+use Rattle.cg_base.specs.IdLaws.{has_name-contained}
 use Rattle.cg_base.specs.Cuts.{index_in}
 use Rattle.cg_queue.specs.Queue.{green_count, names_of}
 use Rattle.cg_base.specs.Lists.{Each}
@@ -26,7 +25,7 @@ use Rattle.cg_model.specs.Looks.{greens_of}
 use Rattle.cg_model.specs.Noting.{chronicle_after}
 use Rattle.cg_model.specs.FactsReplica.{IsModeData}
 use Rattle.cg_model.specs.Played.{StandsBeside, AlwaysHolds}
-use Rattle.cg_agree.proofs.CreatorNumbered.{stands-of, names-count}
+use Rattle.cg_agree.proofs.CreatorNumbered.{stands-of}
 use Rattle.cg_agree_lemmas.specs.FrontFacts.{take-Front}
 use Rattle.cg_agree.proofs.LinesShown.{up-shown}
 use Rattle.cg_agree_lemmas.specs.MadeShown.{IsThere}
@@ -41,16 +40,9 @@ use Rattle.cg_agree.proofs.TellsRun.{HasTold, has-told}
 use Rattle.cg_disk_records.specs.RunMarkLaws.{run-names}
 use Rattle.cg_base.specs.ElementLaws.{each-contains}
 use Rattle.cg_model.specs.RunLaws.{world-last}
+use Rattle.cg_queue.specs.NameLaws.{names-count}
 
 -- ---- the names that were shown as made
-
-contained-names : (k : ℕ) (ids : List ActionId) (id : ActionId) → k < length ids → slice_index_or ids k id ≡ id → has_name ids id ≡ true
-contained-names k [] id lt is = absurd (omega arith)
-contained-names zero (x ∷ ids) id lt is = or_left (same_id id x) (has_name ids id) (same_id-true id x (ap (λ (y : ActionId). y.creator) (sym is)) (ap (λ (y : ActionId). y.index) (sym is)))
-contained-names (suc k) (x ∷ ids) id lt is = or_right (same_id id x) (has_name ids id) (contained-names k ids id (omega arith) is)
-
-pub named-contained : (ids : List ActionId) (id : ActionId) → Contains ids id → has_name ids id ≡ true
-named-contained ids id is = contained-names is.0 ids id is.1 is.2
 
 -- whose creators are up
 creators-up : (w : World) (list : List Made) → Each (IsThere w.nodes) list → Each (λ (id : ActionId). (r : Replica) × (replica_of w id.creator ≡ Some r)) (map (λ m. m.id) list)
@@ -115,13 +107,13 @@ module _ (always : AlwaysHolds) where
     made-some : (id : ActionId) → Contains (made_names steps) id → 1 ≤ id.index
     made-some id is =
         let numbers = run-names [] (made_names steps) id tt told.made.run in
-        let inside : (nat_lt (index_in [] id.creator) id.index && nat_le id.index (index_in (cut_behind [] (made_names steps)) id.creator)) ≡ true = sym numbers ∙ named-contained (made_names steps) id is in
+        let inside : (nat_lt (index_in [] id.creator) id.index && nat_le id.index (index_in (cut_behind [] (made_names steps)) id.creator)) ≡ true = sym numbers ∙ has_name-contained (made_names steps) id is in
         let lt : 0 < id.index = ltb-true 0 id.index (and_parts (nat_lt (index_in [] id.creator) id.index) (nat_le id.index (index_in (cut_behind [] (made_names steps)) id.creator)) inside).0 in
         omega arith
 
     made-counted : (id : ActionId) → Contains (made_names steps) id → id.index ≤ index_in w.made id.creator
     made-counted id is =
-        leb-true id.index (index_in w.made id.creator) (sym (made-told steps c w told.made id (made-some id is)) ∙ named-contained (made_names steps) id is)
+        leb-true id.index (index_in w.made id.creator) (sym (made-told steps c w told.made id (made-some id is)) ∙ has_name-contained (made_names steps) id is)
 
     -- of a replica that is up
     up-stands : (id : ActionId) (r : Replica) (up : UpLine) → replica_of w id.creator ≡ Some r → up.view ≡ view_of r.held → Contains (made_names steps) id → Contains (names_on steps up) id

@@ -50,6 +50,7 @@ use Rattle.cg_agree_lemmas.specs.ModeHeld.{WaitsForNone, none-message, NothingRe
 use Rattle.cg_agree.proofs.ModeStill.{mode-still}
 use Rattle.cg_agree.proofs.ModeCounted.{counted-flow, counted-attempted, counted-installed}
 use Rattle.cg_agree.proofs.ModeStates.{in-primary-as, in-attempt-as, attempting-data, beside-data, parted-data, primary-data, construct-lists, quiet-flow, decided-flow}
+use Rattle.cg_agree_lemmas.specs.Looking.{is_waiting}
 
 -- the configuration is all that is read of a phase
 pub phase-data : (d : Chronicle) (h : Held) (x y : Phase) (state : State) → conf_at x ≡ conf_at y → HasModeData d h x state → HasModeData d h y state
@@ -64,14 +65,9 @@ phase-data d h x y (NonPrim regular) e is = tt
 phase-data d h x y Left e is = tt
 
 -- the states that end an attempt come behind a parting alone
-abbrev is_cut : State → Bool
-is_cut (No conf heard) = true
-is_cut Un = true
-is_cut _ = false
-
-never-cut : (set : List ℕ) (conf : ℕ) (t : Talk) (me : ℕ) → is_cut (state_in set conf t me) ≡ false
+never-cut : (set : List ℕ) (conf : ℕ) (t : Talk) (me : ℕ) → is_waiting (state_in set conf t me) ≡ false
 never-cut set conf t me = one (is_full set t) (is_through t) (has (gone t.heard) me) (not (decides t.heard)) (is_announced t) where
-  one : (b d g n a : Bool) → is_cut (cond (not b) (ExchangeStates conf set t.heard) (cond (not d) (ExchangeActions conf t.heard t.accepted)
+  one : (b d g n a : Bool) → is_waiting (cond (not b) (ExchangeStates conf set t.heard) (cond (not d) (ExchangeActions conf t.heard t.accepted)
       (cond g Left (cond n (NonPrim true) (cond a RegPrim (Construct conf t.announced)))))) ≡ false
   one false d g n a = refl
   one true false g n a = refl
@@ -154,8 +150,8 @@ module _ (c : Chronicle) (p : ℕ) (i : Invariant c) (may : may_make c (Hands p)
       subst NothingRed (sym next-is) (subst (λ (s : State). NothingRed (on_message s n.next.from n.next.message (begin old))) (sym e)
       (construct-lists c.start (greens_of c p) (begin old) n.next.from n.next.message at heard e oneself
       (subst (λ (s : State). is_primary (on_message s n.next.from n.next.message (begin old)).replica.state ≡ true) e (subst (λ (t : Turn). is_primary t.replica.state ≡ true) next-is done.after))))
-  installed-lists (No at heard) e done = absurd (let clash : true ≡ false = sym (ap is_cut e) ∙ ap is_cut n.state ∙ never-cut (members_in c n.conf) n.conf (handed_talk c n.conf p) p in cc)
-  installed-lists Un e done = absurd (let clash : true ≡ false = sym (ap is_cut e) ∙ ap is_cut n.state ∙ never-cut (members_in c n.conf) n.conf (handed_talk c n.conf p) p in cc)
+  installed-lists (No at heard) e done = absurd (let clash : true ≡ false = sym (ap is_waiting e) ∙ ap is_waiting n.state ∙ never-cut (members_in c n.conf) n.conf (handed_talk c n.conf p) p in cc)
+  installed-lists Un e done = absurd (let clash : true ≡ false = sym (ap is_waiting e) ∙ ap is_waiting n.state ∙ never-cut (members_in c n.conf) n.conf (handed_talk c n.conf p) p in cc)
   installed-lists RegPrim e done = absurd (let clash : false ≡ true = sym (ap is_attempting e) ∙ done.before in cc)
   installed-lists TransPrim e done = absurd (let clash : false ≡ true = sym (ap is_attempting e) ∙ done.before in cc)
   installed-lists (ExchangeStates at set heard) e done = absurd (let clash : false ≡ true = sym (ap is_attempting e) ∙ done.before in cc)

@@ -47,7 +47,7 @@ use Rattle.cg_agree_lemmas.specs.GroupSound.{phase-made}
 use Rattle.cg_agree_lemmas.specs.GroupKept.{orders-conf, receives-conf, leaving-regular}
 use Rattle.cg_agree_lemmas.specs.NextThere.{orders-now, receives-now}
 use Rattle.cg_agree_lemmas.specs.OneSteps.{turns-step, hands-step, leaves-step, enters-step, commits-step, copies-step, crashes-step, recovers-step, joins-step, may-join}
-use Rattle.cg_agree_lemmas.specs.HandsKept.{hosted, regular-phase, regular-up}
+use Rattle.cg_agree_lemmas.specs.HandsKept.{hosted, regular-phase}
 use Rattle.cg_agree_lemmas.specs.HandsNow.{hands-now, hands-regular, new, hand-turned}
 use Rattle.cg_agree_lemmas.specs.RecordKept.{turn-is}
 use Rattle.cg_agree.proofs.PastKept.{EntersNow, enters-now}
@@ -63,6 +63,7 @@ use Rattle.cg_agree.proofs.ModeCounted.{Flow, flow-none, counted-flow, counted-i
 use Rattle.cg_agree.proofs.ModeStates.{in-primary-as, in-attempt-as, attempting-data, from-attempting, from-primary, parted-data, quiet-flow}
 use Rattle.cg_agree.proofs.ModeHands.{phase-data, hands-data}
 use Rattle.cg_disk_records.specs.Holds.{cut_behind}
+use Rattle.cg_group.specs.RefusalLaws.{regular-up}
 
 -- ---- replicas behind a step
 

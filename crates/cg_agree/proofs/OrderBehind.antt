@@ -13,7 +13,7 @@ use Rattle.cg_agree.proofs.OrderOnTop.{on_top-along}
 use Rattle.cg_agree_lemmas.specs.SameSmalls.{played-same}
 use Rattle.cg_agree_lemmas.specs.NodeFacts.{node-id}
 use Rattle.cg_agree_lemmas.specs.SmallWorlds.{played-world}
-use Rattle.cg_agree_lemmas.specs.TurnGreens.{IsBetween, facts-along, greens-along, greens-stay, made-first, memory-count, names-count, noted-runs, noted-stands, played-both}
+use Rattle.cg_agree_lemmas.specs.TurnGreens.{IsBetween, facts-along, greens-along, greens-stay, made-first, memory-count, noted-runs, noted-stands, played-both}
 use Rattle.cg_agree_lemmas.specs.TurnWorlds.{life_at, up_node}
 use Rattle.cg_agree_lemmas.specs.TurnsReached.{IsReached, LifeReached, NodeReached}
 use Rattle.cg_agree_lemmas.specs.WorldTurns.{EndsSo, IsBehind, alone-ends, from-same, hand-behind, handed-behind, handed-ends}
@@ -44,6 +44,7 @@ use Rattle.cg_disk_records.specs.Crash.{Disk, EventEnd, at_rest, disk_recovered,
 use Rattle.cg_states.specs.ReplicaStep.{Deliveries, Input, replica_step}
 use Rattle.cg_disk_records.specs.Stored.{whiten}
 use Rattle.cg_wire.specs.declared.message.Msg.{Msg}
+use Rattle.cg_queue.specs.NameLaws.{names-count}
 
 abbrev pub NodeStateOrder : List ActionId → List ActionId → NodeState → Type 0
 NodeStateOrder order greens (Up r disk) = Front greens order

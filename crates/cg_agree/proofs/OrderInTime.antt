@@ -1,8 +1,5 @@
 -- The order of a run is as long as the furthest line that a replica that is up has shown.
-use Rattle.std.proofs.Common.{◌≡◌, ℕ, ◌≤◌, max, cond, List, [], ◌∷◌, ◌++◌, map, fold, length, Option, Some, None, IfSome, refl, sym, ap, ◌∙◌, subst, inl, inr, arith, option_map, option_and_then}
-use Rattle.std.specs.Prelude.{◌==◌}
-use Rattle.std.specs.Option.{option_map_or, option_or}
-use Rattle.std.proofs.lemmas.Bool.{cond_both}
+use Rattle.std.proofs.Common.{◌≡◌, ℕ, ◌≤◌, max, List, [], ◌∷◌, ◌++◌, map, fold, length, Option, Some, None, IfSome, refl, sym, ap, ◌∙◌, subst, inl, inr, arith, option_map, option_and_then}
 use Rattle.std.proofs.lemmas.List.{map-append, length-append}
 use Rattle.cg_base.specs.declared.action_id.ActionId.{ActionId}
 use Rattle.cg_base.specs.Lists.{greatest, present, Each}
@@ -23,20 +20,15 @@ use Rattle.cg_model.specs.Noting.{chronicle_step}
 use Rattle.cg_model.specs.Played.{AlwaysHolds}
 use Rattle.cg_agree_lemmas.specs.OrderTold.{order_told, step_order}
 use Rattle.cg_agree.proofs.OrderReached.{within-order}
-use Rattle.cg_agree.proofs.LinesShown.{lines-each, lines-last, position-shown}
+use Rattle.cg_agree.proofs.LinesShown.{lines-each, position-shown}
 use Rattle.cg_agree.proofs.MadeTold.{step-adds}
 use Rattle.cg_agree.proofs.RunForward.{IsStepOf, of-run}
 use Rattle.cg_agree.proofs.TellsRun.{HasTold, told-on, nothing-told}
 use Rattle.cg_base.specs.ElementLaws.{present-append}
 use Rattle.cg_base.specs.ListLaws.{greatest-append, fold_max-is}
+use Rattle.cg_model.specs.ShowLaws.{counts_of, ups_in, counts-last, count_of, one-below}
 
 -- ---- the greatest count
-
-abbrev pub counts_of : List UpLine → List ℕ
-counts_of ups = map (λ up. up.view.green_count) ups
-
-abbrev pub ups_in : List Line → List UpLine
-ups_in lines = present (map (λ l. l.up) lines)
 
 greatest-below : (n : ℕ) (ns : List ℕ) → Each (λ k. k ≤ n) ns → greatest ns ≤ n
 greatest-below n [] each = omega arith
@@ -46,21 +38,7 @@ greatest-below n (k ∷ ns) each =
     let first = each.0 in
     omega arith
 
-counts-last : (earlier : List Step) (s : Step) → greatest (counts_of (all_up_lines (through earlier s))) ≡ max (greatest (counts_of (all_up_lines earlier))) (greatest (counts_of (ups_in s.entry.lines)))
-counts-last earlier s =
-    let ups : all_up_lines (through earlier s) ≡ all_up_lines earlier ++ ups_in s.entry.lines =
-    ap ups_in (lines-last earlier s) ∙ ap present (map-append (λ (l : Line). l.up) (lines_in earlier) s.entry.lines) ∙ present-append (map (λ l. l.up) (lines_in earlier)) (map (λ l. l.up) s.entry.lines) in
-    ap (λ list. greatest (counts_of list)) ups ∙ ap greatest (map-append (λ (up : UpLine). up.view.green_count) (all_up_lines earlier) (ups_in s.entry.lines))
-    ∙ greatest-append (counts_of (all_up_lines earlier)) (counts_of (ups_in s.entry.lines))
-
 -- ---- the last line of a replica is one of all
-
-abbrev count_of : Option UpLine → ℕ
-count_of o = option_map_or (λ up. up.view.green_count) o 0
-
-one-below : (p id : ℕ) (u o : Option UpLine) → count_of (cond (id == p) (option_or u o) o) ≤ max (count_of o) (greatest (counts_of (present (u ∷ []))))
-one-below p id None o = cond_both (id == p) o o (λ x. count_of x ≤ max (count_of o) 0) (λ y. omega arith) (λ n. omega arith)
-one-below p id (Some up) o = cond_both (id == p) (Some up) o (λ x. count_of x ≤ max (count_of o) (max 0 up.view.green_count)) (λ y. omega arith) (λ n. omega arith)
 
 last-below : (p : ℕ) (lines : List Line) (o : Option UpLine) → count_of (fold (last_of p) o lines) ≤ max (count_of o) (greatest (counts_of (ups_in lines)))
 last-below p [] o = omega arith

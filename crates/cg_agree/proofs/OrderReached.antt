@@ -22,11 +22,12 @@ use Rattle.cg_model.specs.Played.{StandsBeside}
 use Rattle.cg_agree_lemmas.specs.FrontFacts.{Front-length, take-Front}
 use Rattle.cg_agree_lemmas.specs.HeldMarks.{counted}
 use Rattle.cg_disk_records.specs.Holds.{run_on}
-use Rattle.cg_agree.proofs.CreatorNumbered.{names-count, order-runs}
+use Rattle.cg_agree.proofs.CreatorNumbered.{order-runs}
 use Rattle.cg_agree.proofs.MadeTold.{IsMadeTold, made-told}
 use Rattle.cg_disk_records.specs.RunMarkLaws.{run-head, run-rest}
 use Rattle.cg_base.specs.ElementLaws.{each-contains}
 use Rattle.cg_agree_lemmas.specs.MadeThere.{contains-named}
+use Rattle.cg_queue.specs.NameLaws.{names-count}
 
 pub names-drop : (n : ℕ) (list : List Action) → names_of (drop n list) ≡ drop n (names_of list)
 names-drop zero list = refl

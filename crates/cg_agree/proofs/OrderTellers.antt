@@ -25,7 +25,6 @@ use Rattle.cg_agree.proofs.OrderBehind.{IsKept, NodeStateOrder, NodeOrder}
 use Rattle.cg_agree.proofs.PastKept.{enters-now, entry_told, told_in-enters}
 use Rattle.cg_agree_lemmas.specs.RestFacts.{IsQuiet}
 use Rattle.cg_agree_lemmas.specs.ToldKept.{IsUntold, told-same, told_in-same}
-use Rattle.cg_agree_lemmas.specs.TurnGreens.{names-count}
 use Rattle.cg_agree_lemmas.specs.TurnWorlds.{life_at}
 use Rattle.cg_agree_lemmas.specs.WorldTurns.{IsBehind}
 use Rattle.cg_model.specs.Attempts.{held_in}
@@ -49,6 +48,7 @@ use Rattle.cg_group.specs.declared.delivery.Handed.{Handed}
 use Rattle.cg_queue.specs.Queue.{names_of}
 use Rattle.cg_disk_records.specs.Commit.{commits}
 use Rattle.cg_wire.specs.declared.message.Msg.{Msg}
+use Rattle.cg_queue.specs.NameLaws.{names-count}
 
 -- ---- events in which nothing is told
 

@@ -1,12 +1,9 @@
 -- The actions of the first places of the order, as they were shown as made, are those of the book with these names.
-use Rattle.std.proofs.Common.{◌≡◌, zero, suc, ◌<◌, true, false, List, [], ◌∷◌, map, length, Option, Some, Contains, refl, sym, ap, ◌∙◌, subst, inl, inr, arith}
+use Rattle.std.proofs.Common.{◌≡◌, true, List, [], ◌∷◌, map, Option, Some, Contains, refl, sym, ap, ◌∙◌, subst, arith}
 use Rattle.std.specs.Option.{option_map_or}
-use Rattle.std.proofs.lemmas.Bool.{cases_Bool, cond-true, cond-false, or_cases}
-use Rattle.std.proofs.lemmas.List.Elements.{Contains-append_right}
 use Rattle.cg_base.specs.declared.action_id.ActionId.{ActionId}
-use Rattle.cg_base.specs.Ids.{same_id, has_name}
+use Rattle.cg_base.specs.Ids.{has_name}
 use Rattle.cg_base.specs.Lists.{present, Each}
-use Rattle.cg_base.specs.IdLaws.{same_id-is, same_id-self}
 use Rattle.cg_action.specs.declared.action.Action.{Action}
 use Rattle.cg_queue.specs.Queue.{names_of}
 use Rattle.cg_model.specs.World.{World}
@@ -16,44 +13,13 @@ use Rattle.cg_model.specs.Telling.{made_of}
 use Rattle.cg_model.specs.Chronicle.{Chronicle}
 use Rattle.cg_model.specs.Fronts.{Front}
 use Rattle.cg_model.specs.Played.{StandsBeside}
-use Rattle.cg_agree_lemmas.specs.BookGrows.{IsNamed, named_in, named-all}
+use Rattle.cg_agree_lemmas.specs.BookGrows.{IsNamed, named_in, named-all, named-found}
 use Rattle.cg_agree.proofs.MadeTold.{IsMadeTold, as-made}
 use Rattle.cg_agree.proofs.OrderReached.{order-named}
 use Rattle.cg_base.specs.ElementLaws.{each-contains}
 use Rattle.cg_model.specs.MadeLaws.{names-from}
 
 -- ---- names
-
--- a name that stands in a list is found there
-record IsFoundIn (list : List Action) (id : ActionId) : Type 0 where
-  action : Action
-  found : named_in list id ≡ Some action
-  name : action.id ≡ id
-  there : Contains list action
-
-found-there : (list : List Action) (id : ActionId) → has_name (names_of list) id ≡ true → IsFoundIn list id
-found-there [] id is = absurd (let clash : false ≡ true = is in cc)
-found-there (a ∷ list) id is = elim (cases_Bool (same_id a.id id)) [
-  | inl here ↦ record {
-    action = a;
-    found = cond-true (same_id a.id id) (Some a) (named_in list id) here;
-    name = same_id-is a.id id here;
-    there = (zero, (let less : 0 < suc (length list) = omega arith in less), refl);
-  }
-  | inr other ↦
-      let rest = found-there list id (elim (or_cases (same_id id a.id) (has_name (names_of list) id) is) [
-        | inl here ↦ absurd (let same : id ≡ a.id = same_id-is id a.id here in
-            let self : same_id a.id id ≡ true = subst (λ (x : ActionId). same_id a.id x ≡ true) (sym same) (same_id-self a.id) in
-            let clash : true ≡ false = sym self ∙ other in cc)
-        | inr later ↦ later
-      ]) in
-      record {
-        action = rest.action;
-        found = cond-false (same_id a.id id) (Some a) (named_in list id) other ∙ rest.found;
-        name = rest.name;
-        there = Contains-append_right (a ∷ []) list rest.action rest.there;
-      }
-]
 
 -- ---- actions of the book
 
@@ -65,7 +31,7 @@ module _ (steps : List Step) (c : Chronicle) (w : World) (stands : StandsBeside 
 
   pub shown-as : (a : Action) → IsNamed c.book a → has_name (made_names steps) a.id ≡ true → IsShownAs a
   shown-as a booked shown =
-      let is = found-there (made_of steps) a.id (ap (λ ids. has_name ids a.id) (names-from [] steps) ∙ shown) in
+      let is = named-found (made_of steps) a.id (ap (λ ids. has_name ids a.id) (names-from [] steps) ∙ shown) in
       let itself : IsNamed c.book is.action = each-contains (IsNamed c.book) c.book is.action (named-all [] c.book stands.facts.replica.made_once.numbered) (as-made steps c w told is.action is.there) in
       let same : Some is.action ≡ Some a = sym itself ∙ ap (named_in c.book) is.name ∙ booked in
       record { found = is.found ∙ same; there = subst (Contains (made_of steps)) (ap (λ o. option_map_or (λ x. x) o a) same) is.there }

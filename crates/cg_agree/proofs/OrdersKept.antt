@@ -48,7 +48,7 @@ use Rattle.cg_agree_lemmas.specs.NodeFacts.{node-id}
 use Rattle.cg_agree_lemmas.specs.SoundWorlds.{IsSound, sound-of, sound-same}
 use Rattle.cg_agree_lemmas.specs.SpineKept.{start-line}
 use Rattle.cg_agree_lemmas.specs.Standings.{rising-lower}
-use Rattle.cg_agree_lemmas.specs.TurnGreens.{greens-along, names-count}
+use Rattle.cg_agree_lemmas.specs.TurnGreens.{greens-along}
 use Rattle.cg_agree_lemmas.specs.TurnsReached.{NodeReached}
 use Rattle.cg_agree_lemmas.specs.WorldTurns.{IsBehind, from-same, handed-behind}
 use Rattle.cg_agree_lemmas.specs.DiskSwaps.{Swaps, downgrade-swaps, recover_under-cases}
@@ -72,6 +72,7 @@ use Rattle.cg_queue.specs.Queue.{green_count, names_of}
 use Rattle.cg_disk_records.specs.Crash.{Disk, FailOnce, StopWith, Strike, at_rest, disk_recovered, new_disk, recovered}
 use Rattle.cg_wire.specs.declared.message.Msg.{Msg}
 use Rattle.cg_client.specs.Joined.{piece_count}
+use Rattle.cg_queue.specs.NameLaws.{names-count}
 
 module _ (kept : KeptBySmalls) (c : Chronicle) (w : World) (stands : StandsBeside c w) (order : OrderFits c w) where
   sound : IsSound w

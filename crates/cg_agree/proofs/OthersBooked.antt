@@ -15,7 +15,6 @@ use Rattle.cg_agree.proofs.MadeOnceKept.{holds-weaker, message-weaker}
 use Rattle.cg_agree.proofs.OthersShown.{later-shown, names-shown}
 use Rattle.cg_disk_records.specs.RunMarkLaws.{run-names}
 use Rattle.cg_model.specs.FactsBooks.{AreShown, HoldsFine, IsActionShown, IsMessageShown, IsNameShown, LifeShown, LifeToShow, MadeFits, OrderFits, NodeMade, NodeShown, NodeToShow}
-use Rattle.cg_model.specs.Attempts.{held_in}
 use Rattle.cg_model.specs.Chronicle.{Chronicle}
 use Rattle.cg_model.specs.Facts.{Invariant}
 use Rattle.cg_model.specs.Looks.{OfCores, disk_held, greens_of, on_disk, ordered_in, stood_of}
@@ -27,13 +26,7 @@ use Rattle.cg_client.specs.Replica.{Held, Replica, created}
 use Rattle.cg_group.specs.State.{unordered_of}
 use Rattle.cg_queue.specs.Queue.{names_of}
 use Rattle.cg_model.specs.Recorded.{OfMessage}
-
-core-there : (o : Option Node) (r : Replica) → option_and_then (λ s. running s.life) o ≡ Some r → option_map (λ s. held_in s.life) o ≡ Some r.held
-core-there None r e = absurd (let clash : None ≡ Some r = e in cc)
-core-there (Some s) r e = life s.life e where
-  life : (l : NodeState) → running l ≡ Some r → Some (held_in l) ≡ Some r.held
-  life (Up x disk) e = ap (option_map (λ (r : Replica). r.held)) e
-  life (Down disk green) e = absurd (let clash : None ≡ Some r = e in cc)
+use Rattle.cg_agree_lemmas.specs.Looking.{core-there}
 
 -- an action of the book is counted by it
 pub booked-index : (c : Chronicle) → Invariant c → (a : Action) → IsNamed c.book a → a.id.index ≤ index_in (cut_of c.book) a.id.creator

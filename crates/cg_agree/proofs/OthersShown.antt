@@ -17,7 +17,6 @@ use Rattle.cg_agree_lemmas.specs.CreatedKept.{StaysCreated, created-first, creat
 use Rattle.cg_agree_lemmas.specs.DiskEnds.{end-shown}
 use Rattle.cg_agree_lemmas.specs.GreensTold.{step-noted}
 use Rattle.cg_agree.proofs.GroupSays.{says-down, says-sent}
-use Rattle.cg_agree_lemmas.specs.KeptEmpty.{anything}
 use Rattle.cg_agree_lemmas.specs.MadeWorlds.{IsCoreAt, LifeSound, NodeSound}
 use Rattle.cg_agree_lemmas.specs.WorldTurns.{hand-behind}
 use Rattle.cg_model.specs.FactsLists.{IsRising}
@@ -38,6 +37,7 @@ use Rattle.cg_wire.specs.declared.message.Msg.{Msg}
 use Rattle.cg_wire.specs.declared.message.Msg.TheVariants.{Action as ActionMsg}
 use Rattle.cg_disk_records.specs.CutRaiseLaws.{behind-rises, rising-behind}
 use Rattle.cg_model.specs.Recorded.{OfDelivery}
+use Rattle.cg_model.specs.RowLaws.{any-deliveries}
 
 module _ (p n : ℕ) where
   -- ---- lists of names
@@ -124,7 +124,7 @@ module _ (p n : ℕ) where
     unfolding replica_step
     step-mine start r (Deliveries list) core held come =
         let t = fold after_delivery (begin r) list in
-        let stays = of-deliveries (StaysCreated r.held) (λ a. Unit {0}) (created-rule r.held) (begin r) list (anything list) (record { held = created-first start r.held core.greens core.is; made = refl }) in
+        let stays = of-deliveries (StaysCreated r.held) (λ a. Unit {0}) (created-rule r.held) (begin r) list (any-deliveries list) (record { held = created-first start r.held core.greens core.is; made = refl }) in
         settles-mine t (record {
           id = stays.held.id ∙ core.id;
           fine = of-deliveries (AllFine (IsActionShown p n)) (IsActionShown p n) (fine-rule (IsActionShown p n)) (begin r) list come (record { held = held; sent = tt });

@@ -29,7 +29,7 @@ use Rattle.cg_agree_lemmas.specs.NodeFacts.{node-id}
 use Rattle.cg_agree_lemmas.specs.MadeWorlds.{IsCoreAt, LifeSound, NodeSound, green-created}
 use Rattle.cg_agree.proofs.MadeBookKept.{sound-at}
 use Rattle.cg_agree_lemmas.specs.TurnWorlds.{life_at}
-use Rattle.cg_agree.proofs.RunSteps.{world_of, chronicle_of, IsStepAt, StandsFor, stands-for, step-of}
+use Rattle.cg_agree.proofs.RunSteps.{IsStepAt, StandsFor, stands-for, step-of}
 use Rattle.cg_agree_lemmas.specs.OwedNames.{own_name, own-named}
 use Rattle.cg_agree_lemmas.specs.StepSays.{IsOwing, SaysSo, step-says}
 use Rattle.cg_agree_lemmas.specs.EventSays.{made_ids, OwesSo, LifeOwes, NodeOwes, made_by, replies_by}
@@ -37,15 +37,13 @@ use Rattle.cg_agree.proofs.EventMeets.{SaidOnly, KeptIn, TurnsIn, FallsIn, Wakes
 use Rattle.cg_agree.proofs.EventsMeet.{happens-meets}
 use Rattle.cg_agree_lemmas.specs.LivesSince.{lives-next, is_down_line, not-down, goes-down}
 use Rattle.cg_agree.proofs.OwedRun.{LivesOf, LivesAt, OwedAt, joined-range, none-range, owes-none, StepShows, step-shows, lines-both, lines-fold, last-is}
+use Rattle.cg_model.specs.RunLaws.{world_of, chronicle_of}
+use Rattle.cg_disk_records.specs.HeldLaws.{whitened-created}
 
 -- what is held owes the same behind a commit
 whitened-owing : (p base : ℕ) (h : Held) → IsOwing p base h → IsOwing p base (whiten h)
 unfolding whiten
 whitened-owing p base h is = record { low = is.low; owed = is.owed }
-
-pub whitened-created : (h : Held) → created (whiten h) ≡ created h
-unfolding whiten
-whitened-created h = refl
 
 whole : (b : Bool) → ((b && true) || false) ≡ b
 whole true = refl

@@ -15,10 +15,11 @@ use Rattle.cg_model.specs.Shown.{lines_in}
 use Rattle.cg_model.specs.Agreement.{through, lives_since}
 use Rattle.cg_model.specs.Looks.{disk_held}
 use Rattle.cg_model.specs.Telling.{latest, last_line, printed}
-use Rattle.cg_agree.proofs.RunSteps.{world_of, IsStepAt, StandsFor}
+use Rattle.cg_agree.proofs.RunSteps.{IsStepAt, StandsFor}
 use Rattle.cg_agree_lemmas.specs.RepliesPlaced.{plain}
 use Rattle.cg_agree_lemmas.specs.OwedNames.{own_name, own_names}
 use Rattle.cg_agree_lemmas.specs.StepSays.{IsOwing}
+use Rattle.cg_model.specs.RunLaws.{world_of}
 
 -- the replica owes the replies to its own actions behind a number, and its own actions behind that number are those that it lives since
 pub record LivesOf (steps : List Step) (p : ℕ) (r : Replica) : Type 0 where

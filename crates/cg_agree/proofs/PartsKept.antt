@@ -33,12 +33,13 @@ use Rattle.cg_agree_lemmas.specs.ExchangeHands.{best-same}
 use Rattle.cg_agree_lemmas.specs.HandsNow.{hands-now, new, running-now}
 use Rattle.cg_agree_lemmas.specs.Knowledge.{some-sender, known-of}
 use Rattle.cg_agree_lemmas.specs.EndCovers.{OfEach}
-use Rattle.cg_agree.proofs.LevelsKept.{NotStart, start-kept}
+use Rattle.cg_agree.proofs.LevelsKept.{start-kept}
 use Rattle.cg_agree_lemmas.specs.PartsNamed.{PartsNamed, parts-named}
 use Rattle.cg_agree_lemmas.specs.PlanEnd.{AtPlanEnd}
 use Rattle.cg_agree.proofs.ShapeKept.{MadeParts, same-end, shape-kept}
 use Rattle.cg_agree.proofs.ToldStays.{told-stays}
 use Rattle.cg_agree_lemmas.specs.TurnKinds.{HasAttempted}
+use Rattle.cg_agree_lemmas.specs.LinesFollow.{NotStart}
 
 each-true : (heard : List Summary) → OfEach (λ s. Unit {0}) heard
 each-true [] = tt

@@ -25,7 +25,7 @@ use Rattle.cg_model.specs.FactsReplica.{IsModeData}
 use Rattle.cg_model.specs.Small.{start, Small, Starts, Makes, Enters, Orders, Receives, Hands, Leaves, Asks, Settles, Commits, Crashes, Recovers, Copies, Joins, small_step, turning_as, coming, take_newest, newest_conf, after_turn, take_request}
 use Rattle.cg_model.specs.Smalls.{may_make, is_between, is_running}
 use Rattle.cg_agree_lemmas.specs.EntersTurn.{told-newest}
-use Rattle.cg_agree_lemmas.specs.GroupKept.{in_world, begins-step, orders-conf, receives-conf, leaving-regular}
+use Rattle.cg_agree_lemmas.specs.GroupKept.{begins-step, orders-conf, receives-conf, leaving-regular}
 use Rattle.cg_agree_lemmas.specs.GroupSound.{GroupSound, phase-made}
 use Rattle.cg_agree_lemmas.specs.HandsKept.{hosted}
 use Rattle.cg_agree_lemmas.specs.Keyed.{find-none}
@@ -34,6 +34,7 @@ use Rattle.cg_agree_lemmas.specs.NextThere.{orders-now, receives-now}
 use Rattle.cg_agree_lemmas.specs.OneSteps.{OneStep, MayEnter, may-enter, turns-step, hands-step, leaves-step, enters-step, commits-step, copies-step, crashes-step, recovers-step, joins-step, may-join, coming-is_up}
 use Rattle.cg_agree_lemmas.specs.SmallTalk.{conf-there}
 use Rattle.cg_agree_lemmas.specs.ToldKept.{told-same, told_in-same}
+use Rattle.cg_model.specs.Played.{with_world}
 
 -- ---- what an entry tells
 
@@ -190,14 +191,14 @@ past-enters c p sound now more old = record {
   within conf q told = ⊎_elim (λ was. (conf-there c.world.group conf q (old.member conf q was)).1) (λ is. (let e = is.0 in omega arith)) (either conf q told)
 
 -- replicas begin
-past-begun : (c : Chronicle) (set : List Weighted) (replicas : List ℕ) (w : World) → PastLeft (in_world c w) → PastLeft (in_world c (fold (begin_replica set) w replicas))
+past-begun : (c : Chronicle) (set : List Weighted) (replicas : List ℕ) (w : World) → PastLeft (with_world c w) → PastLeft (with_world c (fold (begin_replica set) w replicas))
 past-begun c set [] w old = old
 past-begun c set (p ∷ replicas) w old =
     let step = begins-step c set w p in
     past-begun c set replicas (begin_replica set w p)
-    (past-one (in_world c w) (in_world c (begin_replica set w p)) p Alone 0 true step (more-one (in_world c w) _ p Alone 0 true step) refl (λ conf earlier told lt. refl) old)
+    (past-one (with_world c w) (with_world c (begin_replica set w p)) p Alone 0 true step (more-one (with_world c w) _ p Alone 0 true step) refl (λ conf earlier told lt. refl) old)
 
-past-world : (c : Chronicle) (set : List Weighted) → PastLeft (in_world c (fold (begin_replica set) c.world (ids set))) → PastLeft (start c set)
+past-world : (c : Chronicle) (set : List Weighted) → PastLeft (with_world c (fold (begin_replica set) c.world (ids set))) → PastLeft (start c set)
 past-world c set old = record { member = old.member; left = old.left }
 
 pub past_left-kept : (c : Chronicle) (s : Small) → Hosted c → GroupSound c → ((q : ℕ) → IfSome (replica_of c.world q) (IsModeData c q)) → may_make c s ≡ true → PastLeft c → PastLeft (small_step c s)

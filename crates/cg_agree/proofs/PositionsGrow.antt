@@ -19,10 +19,12 @@ use Rattle.cg_model.specs.Agreement.{through, may_move}
 use Rattle.cg_model.specs.Chronicle.{Chronicle, no_chronicle}
 use Rattle.cg_model.specs.Noting.{chronicle_step, chronicle_after}
 use Rattle.cg_model.specs.Played.{AlwaysHolds}
-use Rattle.cg_agree.proofs.CountsGrow.{held_at, count_at, CountGrows, event-counts}
-use Rattle.cg_agree.proofs.LinesShown.{lines-each, lines-last, position-shown}
+use Rattle.cg_agree.proofs.CountsGrow.{count_at, CountGrows, event-counts}
+use Rattle.cg_agree.proofs.LinesShown.{lines-each, position-shown}
 use Rattle.cg_agree.proofs.RunForward.{IsStepOf, of-run}
 use Rattle.cg_agree.proofs.TellsRun.{HasTold, told-on, nothing-told}
+use Rattle.cg_model.specs.ShowLaws.{lines-last}
+use Rattle.cg_model.specs.Attempts.{held_in}
 
 -- ---- a replica that isn't up is shown no more
 
@@ -59,7 +61,7 @@ module _ (earlier : List Step) (c : Chronicle) (w : World) (s : Step) (step : Is
 
 pub count-running : (w : World) (p : ℕ) (r : Replica) → replica_of w p ≡ Some r → count_at (node_of w p) ≡ green_count r.held.queue
 count-running w p r runs = at (node_of w p) runs where
-  life : (l : NodeState) → running l ≡ Some r → green_count (held_at l).queue ≡ green_count r.held.queue
+  life : (l : NodeState) → running l ≡ Some r → green_count (held_in l).queue ≡ green_count r.held.queue
   life (Up x disk) is = ap (λ (o : Option Replica). green_count (option_map_or (λ y. y) o x).held.queue) is
   life (Down disk green) is = absurd (let clash : None ≡ Some r = is in cc)
 

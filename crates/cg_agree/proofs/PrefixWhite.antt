@@ -20,7 +20,7 @@ use Rattle.cg_model.specs.FactsReplica.{join_from}
 use Rattle.cg_model.specs.Noting.{chronicle_after}
 use Rattle.cg_model.specs.Played.{StandsBeside, AlwaysHolds}
 use Rattle.cg_agree_lemmas.specs.FrontFacts.{Front-of_both, take-Front}
-use Rattle.cg_agree.proofs.CreatorNumbered.{stands-of, names-count}
+use Rattle.cg_agree.proofs.CreatorNumbered.{stands-of}
 use Rattle.cg_agree.proofs.DownAgrees.{down-prefix}
 use Rattle.cg_agree_lemmas.specs.LinesGreens.{join-within, join-front}
 use Rattle.cg_agree_lemmas.specs.LinesTold.{JoinsBelow, greens-below, first-lines}
@@ -31,6 +31,7 @@ use Rattle.cg_agree.proofs.RunPrefix.{comes}
 use Rattle.cg_agree.proofs.WhiteTold.{IsReachedLine, AreKept, are-kept}
 use Rattle.cg_base.specs.ElementLaws.{each-contains}
 use Rattle.cg_model.specs.RunLaws.{world-last}
+use Rattle.cg_queue.specs.NameLaws.{names-count}
 
 module _ (steps : List Step) (c : Chronicle) (w : World) (stands : StandsBeside c w) (k : AreKept steps c w) (order : w.order ≡ order_of steps) (p q : ℕ) where
   abbrev mine : List Action

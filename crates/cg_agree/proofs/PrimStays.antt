@@ -37,12 +37,9 @@ use Rattle.cg_agree.proofs.BegunKept.{start-turning, start-joins}
 use Rattle.cg_agree_lemmas.specs.SameAttempt.{KeepsAttempts, keeps-refl, keeps-then, attempts-kept}
 use Rattle.cg_agree_lemmas.specs.ReachWorld.{MoreLevels, levels-kept}
 use Rattle.cg_client.specs.Joined.{piece_count}
+use Rattle.cg_agree_lemmas.specs.LinesFollow.{NotStart}
 
 -- ---- small steps
-
-abbrev pub StartsNone : Small → Type 0
-StartsNone (Starts set) = ⊥
-StartsNone _ = Unit {0}
 
 by_node : (c : Chronicle) (p : ℕ) (change : NodeState → Chronicle) → ((l : NodeState) → (change l).start ≡ c.start) → (o : Option Node) → (option_map_or (λ s. change s.life) o c).start ≡ c.start
 by_node c p change each None = refl
@@ -52,7 +49,7 @@ by_replica : (c : Chronicle) (p joiner : ℕ) (o : Option Replica) → (option_m
 by_replica c p joiner None = refl
 by_replica c p joiner (Some r) = refl
 
-start-stays : (c : Chronicle) (s : Small) → StartsNone s → (small_step c s).start ≡ c.start
+start-stays : (c : Chronicle) (s : Small) → NotStart s → (small_step c s).start ≡ c.start
 unfolding small_step
 start-stays c (Starts set) none = absurd none
 start-stays c (Makes set) none = refl
@@ -94,7 +91,7 @@ stays-then b c d one two = record {
   levels = record { more = one.levels.more ++ two.levels.more; all = two.levels.all ∙ ap (λ xs. xs ++ two.levels.more) one.levels.all ∙ append_assoc b.levels one.levels.more two.levels.more };
 }
 
-stays-played : (smalls : List Small) (c : Chronicle) → Each StartsNone smalls → StaysOn c (played c smalls)
+stays-played : (smalls : List Small) (c : Chronicle) → Each NotStart smalls → StaysOn c (played c smalls)
 stays-played [] c none = stays-refl c
 stays-played (s ∷ smalls) c none =
     let d = small_step c s in
@@ -102,27 +99,27 @@ stays-played (s ∷ smalls) c none =
 
 -- ---- events
 
-each-flat : {X : Type 0} (f : X → List Small) → ((x : X) → Each StartsNone (f x)) → (xs : List X) → Each StartsNone (flat_map f xs)
+each-flat : {X : Type 0} (f : X → List Small) → ((x : X) → Each NotStart (f x)) → (xs : List X) → Each NotStart (flat_map f xs)
 each-flat f each [] = tt
-each-flat f each (x ∷ xs) = Each-append StartsNone (f x) (flat_map f xs) (each x) (each-flat f each xs)
+each-flat f each (x ∷ xs) = Each-append NotStart (f x) (flat_map f xs) (each x) (each-flat f each xs)
 
-each-map : {X : Type 0} (f : X → Small) → ((x : X) → StartsNone (f x)) → (xs : List X) → Each StartsNone (map f xs)
+each-map : {X : Type 0} (f : X → Small) → ((x : X) → NotStart (f x)) → (xs : List X) → Each NotStart (map f xs)
 each-map f each [] = tt
 each-map f each (x ∷ xs) = (each x, each-map f each xs)
 
-each-replicate : (n : ℕ) (s : Small) → StartsNone s → Each StartsNone (replicate n s)
+each-replicate : (n : ℕ) (s : Small) → NotStart s → Each NotStart (replicate n s)
 each-replicate zero s none = tt
 each-replicate (suc n) s none = (none, each-replicate n s none)
 
-ends-none : (t : Taken) (steps : List Small) (e : EventEnd) → Each StartsNone steps → Each StartsNone (ending_as t steps e)
+ends-none : (t : Taken) (steps : List Small) (e : EventEnd) → Each NotStart steps → Each NotStart (ending_as t steps e)
 ends-none t steps (Runs r disk) none =
-    Each-append StartsNone steps (if commits t.before.held t.turn then Commits t.id ∷ [] else []) none
-    (cond_both (commits t.before.held t.turn) (Commits t.id ∷ []) [] (Each StartsNone) (λ y. (tt, tt)) (λ n. tt))
+    Each-append NotStart steps (if commits t.before.held t.turn then Commits t.id ∷ [] else []) none
+    (cond_both (commits t.before.held t.turn) (Commits t.id ∷ []) [] (Each NotStart) (λ y. (tt, tt)) (λ n. tt))
 ends-none t steps (EndsInCrash disk green) none =
-    cond_both (stands t) (steps ++ Commits t.id ∷ Crashes t.id ∷ []) (Crashes t.id ∷ []) (Each StartsNone)
-    (λ y. Each-append StartsNone steps (Commits t.id ∷ Crashes t.id ∷ []) none (tt, (tt, tt))) (λ n. (tt, tt))
+    cond_both (stands t) (steps ++ Commits t.id ∷ Crashes t.id ∷ []) (Crashes t.id ∷ []) (Each NotStart)
+    (λ y. Each-append NotStart steps (Commits t.id ∷ Crashes t.id ∷ []) none (tt, (tt, tt))) (λ n. (tt, tt))
 
-turns-none : (steps : ℕ → List Small) → ((p : ℕ) → Each StartsNone (steps p)) → (w : World) (e : Event) → Each StartsNone (turns_as steps w e)
+turns-none : (steps : ℕ → List Small) → ((p : ℕ) → Each NotStart (steps p)) → (w : World) (e : Event) → Each NotStart (turns_as steps w e)
 turns-none steps none w e = each-flat (ending steps) (λ t. ends-none t (steps t.id) t.ended (none t.id)) (turns_of w e)
 
 IsNoStart : Event → Type 0
@@ -130,42 +127,42 @@ IsNoStart (Start set) = ⊥
 IsNoStart _ = Unit {0}
 
 joins-none : (w : World) (joiner pieces : ℕ) (p : ℕ) (o : Option Replica) →
-    Each StartsNone (option_map_or (λ r. (let s = snapshot_for w p joiner r in if nat_le (piece_count s.content - s.taken) pieces then Joins joiner ∷ [] else [])) o [])
+    Each NotStart (option_map_or (λ r. (let s = snapshot_for w p joiner r in if nat_le (piece_count s.content - s.taken) pieces then Joins joiner ∷ [] else [])) o [])
 joins-none w joiner pieces p None = tt
 joins-none w joiner pieces p (Some r) =
     let s = snapshot_for w p joiner r in
-    cond_both (nat_le (piece_count s.content - s.taken) pieces) (Joins joiner ∷ []) [] (Each StartsNone) (λ y. (tt, tt)) (λ n. tt)
+    cond_both (nat_le (piece_count s.content - s.taken) pieces) (Joins joiner ∷ []) [] (Each NotStart) (λ y. (tt, tt)) (λ n. tt)
 
-smalls-none : (w : World) (e : Event) → IsNoStart e → Each StartsNone (smalls_in w e)
+smalls-none : (w : World) (e : Event) → IsNoStart e → Each NotStart (smalls_in w e)
 unfolding smalls_in IsNoStart
 smalls-none w (Start set) is = absurd is
 smalls-none w (Merge set) is = (tt, turns-none (λ p. Enters p ∷ Settles p ∷ []) (λ p. (tt, (tt, tt))) w (Merge set))
 smalls-none w (Split set) is = turns-none (leaving_steps w.group set) leaves w (Split set) where
-  leaves : (p : ℕ) → Each StartsNone (leaving_steps w.group set p)
+  leaves : (p : ℕ) → Each NotStart (leaving_steps w.group set p)
   leaves p =
       let last = furthest w.group set in
       let behind : List Small = Leaves p set (delivered_to w.group p) (transitional_places (home w.group p) set last) ∷ Settles p ∷ [] in
-      Each-append StartsNone (replicate (last - delivered_to w.group p) (Hands p)) behind (each-replicate (last - delivered_to w.group p) (Hands p) tt) (tt, (tt, tt))
+      Each-append NotStart (replicate (last - delivered_to w.group p) (Hands p)) behind (each-replicate (last - delivered_to w.group p) (Hands p) tt) (tt, (tt, tt))
 smalls-none w (Deliver p count) is =
-    turns-none (λ q. replicate count (Hands q) ++ Settles q ∷ []) (λ q. Each-append StartsNone (replicate count (Hands q)) (Settles q ∷ []) (each-replicate count (Hands q) tt) (tt, tt)) w (Deliver p count)
+    turns-none (λ q. replicate count (Hands q) ++ Settles q ∷ []) (λ q. Each-append NotStart (replicate count (Hands q)) (Settles q ∷ []) (each-replicate count (Hands q) tt) (tt, tt)) w (Deliver p count)
 smalls-none w (Order p) is = (tt, tt)
 smalls-none w (Receive p place) is = (tt, tt)
 smalls-none w Gather is =
     let g = w.group in
     let behind = fold order_all g (regulars g) in
-    Each-append StartsNone (order_steps g) (receive_steps behind)
+    Each-append NotStart (order_steps g) (receive_steps behind)
     (each-flat (λ p. map (λ m. Orders p) (unordered_of g p)) (λ p. each-map (λ m. Orders p) (λ m. tt) (unordered_of g p)) (regulars g))
     (each-flat (λ p. map (Receives p) (missing (home behind p) p)) (λ p. each-map (Receives p) (λ place. tt) (missing (home behind p) p)) (regulars behind))
 smalls-none w (Request p cmds query) is = turns-none (λ q. Asks q (Update cmds query) ∷ []) (λ q. (tt, tt)) w (Request p cmds query)
 smalls-none w (Join p joiner weight) is = turns-none (λ q. Asks q (JoinKind joiner weight) ∷ []) (λ q. (tt, tt)) w (Join p joiner weight)
 smalls-none w (Leave p server) is = turns-none (λ q. Asks q (LeaveKind server) ∷ []) (λ q. (tt, tt)) w (Leave p server)
-smalls-none w (Stop p call fill) is = cond_both (call == 0) (Crashes p ∷ []) [] (Each StartsNone) (λ y. (tt, tt)) (λ n. tt)
+smalls-none w (Stop p call fill) is = cond_both (call == 0) (Crashes p ∷ []) [] (Each NotStart) (λ y. (tt, tt)) (λ n. tt)
 smalls-none w (Recover p) is = (tt, tt)
-smalls-none w (RecoverStopped p call fill) is = at_node_both (λ (life : NodeState). []) (Recovers p ∷ []) (Each StartsNone) (λ life. tt) (tt, tt) w p (stays_down (record { call = call; fault = StopWith fill }))
+smalls-none w (RecoverStopped p call fill) is = at_node_both (λ (life : NodeState). []) (Recovers p ∷ []) (Each NotStart) (λ life. tt) (tt, tt) w p (stays_down (record { call = call; fault = StopWith fill }))
 smalls-none w (Downgrade p) is = tt
 smalls-none w (Transfer p joiner pieces) is =
-    Each-append StartsNone (copy_steps w p joiner) (join_steps w p joiner pieces)
-    (cond_both (option_map_or (λ (s : TransferState). s.giver == p) (snapshot_of w joiner) false) [] (Copies p joiner ∷ []) (Each StartsNone) (λ y. tt) (λ n. (tt, tt)))
+    Each-append NotStart (copy_steps w p joiner) (join_steps w p joiner pieces)
+    (cond_both (option_map_or (λ (s : TransferState). s.giver == p) (snapshot_of w joiner) false) [] (Copies p joiner ∷ []) (Each NotStart) (λ y. tt) (λ n. (tt, tt)))
     (joins-none w joiner pieces p (replica_of w p))
 smalls-none w (Weak p query) is = tt
 smalls-none w (Dirty p query) is = tt

@@ -30,7 +30,6 @@ use Rattle.cg_model.specs.Facts.{Invariant}
 use Rattle.cg_agree.proofs.ClearedDead.{IsToldIn, each-told}
 use Rattle.cg_agree_lemmas.specs.EndCovers.{OfEach, of_each-weaker}
 use Rattle.cg_agree.proofs.DeadKept.{remaining-senders}
-use Rattle.cg_agree_lemmas.specs.HandsKept.{regular-up}
 use Rattle.cg_agree_lemmas.specs.Announced.{senders-members}
 use Rattle.cg_agree_lemmas.specs.MadeAlone.{is-running}
 use Rattle.cg_agree_lemmas.specs.ReachFacts.{all-at}
@@ -38,6 +37,7 @@ use Rattle.cg_agree_lemmas.specs.SaidSoFar.{kind_of, part_of, kind-cons, nobodys
 use Rattle.cg_agree_lemmas.specs.TalkCommute.{tells, senders-more}
 use Rattle.cg_agree_lemmas.specs.TalkEarly.{early-none}
 use Rattle.cg_agree.proofs.QuietPlan.{all-through}
+use Rattle.cg_group.specs.RefusalLaws.{regular-up}
 
 -- ---- what a talk has of its messages
 

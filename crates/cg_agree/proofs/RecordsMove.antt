@@ -40,6 +40,7 @@ use Rattle.cg_agree_lemmas.specs.HandsNow.{HandsNow, hands-now, new, hand-turned
 use Rattle.cg_agree_lemmas.specs.PlanEnd.{AtPlanEnd, is_behind, plan-end}
 use Rattle.cg_agree_lemmas.specs.AttemptsTurn.{ends-beside}
 use Rattle.cg_agree_lemmas.specs.RecordKept.{same-replica, enters-between}
+use Rattle.cg_agree_lemmas.specs.Looking.{core_in}
 
 -- ---- a record behind a step
 
@@ -56,9 +57,6 @@ pub data RecordMove (c : Chronicle) (p : ℕ) (h : Held) : Type 0 where
 
 abbrev pub RecordsMove : Chronicle → Chronicle → Type 0
 RecordsMove c d = (p : ℕ) (h : Held) → core_of d p ≡ Some h → RecordMove c p h
-
-abbrev core_in : Option Node → Option Held
-core_in o = option_map (λ s. held_in s.life) o
 
 runs-in : (c : Chronicle) (p : ℕ) (r : Replica) (disk : Disk) → node_of c.world p ≡ Some (record { id = p; life = Up r disk }) → replica_of c.world p ≡ Some r
 runs-in c p r disk node = ap (λ (o : Option Node). option_and_then (λ s. running s.life) o) node

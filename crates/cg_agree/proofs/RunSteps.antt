@@ -1,28 +1,22 @@
 -- A step of a run: what stands before it and behind it, of the run up to there, and what the steps up to there have told.
 use Rattle.std.proofs.Common.{◌≡◌, List, None}
-use Rattle.cg_model.specs.World.{World, no_world}
+use Rattle.cg_model.specs.World.{no_world}
 use Rattle.cg_model.specs.Admission.{first_refusal}
 use Rattle.cg_model.specs.Show.{Moved}
 use Rattle.cg_model.specs.Step.{world_step}
-use Rattle.cg_model.specs.Run.{Step, MayStand, IsRunFrom, world_after}
+use Rattle.cg_model.specs.Run.{Step, MayStand, IsRunFrom}
 use Rattle.cg_model.specs.Agreement.{ComesAfter, through}
-use Rattle.cg_model.specs.Chronicle.{Chronicle, no_chronicle}
-use Rattle.cg_model.specs.Noting.{chronicle_step, chronicle_after}
+use Rattle.cg_model.specs.Chronicle.{no_chronicle}
+use Rattle.cg_model.specs.Noting.{chronicle_step}
 use Rattle.cg_model.specs.Played.{StandsBeside, AlwaysHolds, with_world}
 use Rattle.cg_model.specs.Telling.{Tells}
 use Rattle.cg_agree.proofs.CreatorNumbered.{stands-of}
 use Rattle.cg_agree.proofs.MadeTold.{IsMadeTold}
 use Rattle.cg_agree.proofs.TellsRun.{has-told, tells}
 use Rattle.cg_agree.proofs.RunPrefix.{comes}
-use Rattle.cg_model.specs.RunLaws.{world-last, chronicle-last}
+use Rattle.cg_model.specs.RunLaws.{world-last, chronicle-last, world_of, chronicle_of}
 
 -- the world and the chronicle behind the steps of a run
-abbrev pub world_of : List Step → World
-world_of steps = world_after no_world steps
-
-abbrev pub chronicle_of : List Step → Chronicle
-chronicle_of steps = chronicle_after no_chronicle no_world steps
-
 -- a step behind the earlier ones of a run
 pub record IsStepAt (earlier : List Step) (s : Step) : Type 0 where
   pub before : IsRunFrom no_world earlier

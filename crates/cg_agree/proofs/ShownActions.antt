@@ -1,5 +1,5 @@
 -- The actions of a front of the order, as the steps of a run have shown them, are those that replicas have there.
-use Rattle.std.proofs.Common.{◌≡◌, suc, List, [], ◌∷◌, take, length, Some, refl, sym, ap, ◌∙◌, subst}
+use Rattle.std.proofs.Common.{◌≡◌, List, [], take, length, Some, sym, ap, ◌∙◌, subst}
 use Rattle.cg_base.specs.Lists.{Each}
 use Rattle.cg_base.specs.EachLaws.{Each-weaker}
 use Rattle.cg_action.specs.declared.action.Action.{Action}
@@ -12,12 +12,10 @@ use Rattle.cg_model.specs.Shown.{order_of, made_action, made_actions, ordered_ac
 use Rattle.cg_model.specs.World.{World}
 use Rattle.cg_agree_lemmas.specs.FrontFacts.{take-Front}
 use Rattle.cg_agree.proofs.OrderedActions.{IsShownAs, each-shown_as, ordered-as}
-use Rattle.cg_agree.proofs.RunSteps.{world_of, chronicle_of, StandsFor}
+use Rattle.cg_agree.proofs.RunSteps.{StandsFor}
 use Rattle.cg_agree_lemmas.specs.BookedCores.{each-booked}
-
-names-count : (list : List Action) → length (names_of list) ≡ length list
-names-count [] = refl
-names-count (a ∷ list) = ap suc (names-count list)
+use Rattle.cg_queue.specs.NameLaws.{names-count}
+use Rattle.cg_model.specs.RunLaws.{world_of, chronicle_of}
 
 module _ (steps : List Step) (f : StandsFor steps) where
   abbrev c : Chronicle

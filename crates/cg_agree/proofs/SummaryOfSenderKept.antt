@@ -48,9 +48,7 @@ use Rattle.cg_agree.proofs.MadeOnceKept.{created-grows}
 use Rattle.cg_agree_lemmas.specs.KnowsOn.{knows-on, takes-knowing, settles-knowing, asks-knowing}
 use Rattle.cg_agree.proofs.SummariesKept.{told-by, up-entered, greens-entered, fits-kept, knows-kept}
 use Rattle.cg_agree_lemmas.specs.SummariesInside.{LivesOn, Goal, goal-same, goal-some, lives-same, in-same, in-one, lives-turning, parted-in, inside-place, inside-places, first-of, commit-goal, crash-goal, alone-goal}
-
-never : {A : Type 0} → false ≡ true → A
-never e = absurd (let clash : false ≡ true = e in cc)
+use Rattle.cg_base.specs.BoolLaws.{impossible}
 
 -- ---- who told something is still there
 
@@ -133,12 +131,12 @@ module _ (c : Chronicle) (i : Invariant c) (conf p : ℕ) (t : Told) (told : tol
   inside-phases (Asks x kind) m other = in-one c i conf number-told _ x _ _ _ (turns-step c x (take_request kind) i.net.phase_sound) (λ e. e)
   inside-phases (Settles x) m other = in-one c i conf number-told _ x _ _ _ (turns-step c x settle i.net.phase_sound) (λ e. e)
   inside-phases (Commits x) m other = in-one c i conf number-told _ x _ _ _ (commits-step c x i.net.phase_sound) (λ e. e)
-  inside-phases (Crashes x) m other = in-one c i conf number-told _ x DownPhase 0 false (crashes-step c x m) (λ e. never e)
+  inside-phases (Crashes x) m other = in-one c i conf number-told _ x DownPhase 0 false (crashes-step c x m) (λ e. impossible e)
   inside-phases (Recovers x) m other =
       let parts = and_parts (has_begun c.world x) (not (is_running c x)) m in
-      in-one c i conf number-told _ x Alone 0 true (recovers-step c x i.net.hosted parts.0 (not-true (is_running c x) parts.1)) (λ e. never e)
+      in-one c i conf number-told _ x Alone 0 true (recovers-step c x i.net.hosted parts.0 (not-true (is_running c x) parts.1)) (λ e. impossible e)
   inside-phases (Copies x joiner) m other = in-one c i conf number-told _ x _ _ _ (copies-step c x joiner i.net.phase_sound) (λ e. e)
-  inside-phases (Joins joiner) m other = in-one c i conf number-told _ joiner Alone 0 true (joins-step c joiner (may-join c joiner m)) (λ e. never e)
+  inside-phases (Joins joiner) m other = in-one c i conf number-told _ joiner Alone 0 true (joins-step c joiner (may-join c joiner m)) (λ e. impossible e)
 
   -- another one enters
   inside-entered : (q : ℕ) → EntersNow c q → (r : Replica) → replica_of (small_step c (Enters q)).world p ≡ Some r → is_in (small_step c (Enters q)) conf p ≡ true → LivesOn c conf p r

@@ -1,8 +1,8 @@
 -- The small steps by which a replica crashes, recovers, begins or is copied keep the facts about what is said.
-use Rattle.std.proofs.Common.{◌≡◌, ℕ, true, false, cond, List, [], ◌∷◌, fold, Option, Some, None, IfSome, refl, sym, ap, subst, ◌∙◌, eq-eqb, is_some, option_and_then}
+use Rattle.std.proofs.Common.{◌≡◌, ℕ, true, false, cond, List, [], ◌∷◌, fold, Option, Some, None, IfSome, refl, sym, ap, subst, ◌∙◌, is_some, option_and_then}
 use Rattle.std.specs.Prelude.{◌==◌}
 use Rattle.std.specs.Option.{option_map_or}
-use Rattle.std.proofs.lemmas.Bool.{cond-true, cond-false}
+use Rattle.std.proofs.lemmas.Bool.{cond-false}
 use Rattle.cg_base.specs.declared.weighted.Weighted.{Weighted}
 use Rattle.cg_base.specs.Weights.{ids}
 use Rattle.cg_wire.specs.declared.message.Msg.{Msg}
@@ -21,16 +21,16 @@ use Rattle.cg_model.specs.FactsNet.{Hosted}
 use Rattle.cg_model.specs.FactsTalk.{IsStateIn, TalkFacts}
 use Rattle.cg_model.specs.Small.{Starts, Crashes, Recovers, Copies, Joins, start, small_step, crash_as, recover_as, copy_as, join_with}
 use Rattle.cg_model.specs.Smalls.{is_running}
-use Rattle.cg_agree_lemmas.specs.ChronicleFacts.{node_of-set}
+use Rattle.cg_agree_lemmas.specs.ChronicleFacts.{node_of-set, replica_of-set}
 use Rattle.cg_agree_lemmas.specs.EntersTurn.{own-state}
-use Rattle.cg_agree_lemmas.specs.GroupKept.{in_world}
 use Rattle.cg_agree_lemmas.specs.NumbersSame.{IsNumberedAs, numbered-itself}
 use Rattle.cg_agree_lemmas.specs.OneStands.{Stands, stands-up, stands-down}
 use Rattle.cg_agree_lemmas.specs.OneSteps.{MayJoin, node-there, running-begun}
 use Rattle.cg_agree_lemmas.specs.TalkApart.{Apart, talk-apart}
-use Rattle.cg_agree_lemmas.specs.TalkFrame.{IsShownAs}
+use Rattle.cg_agree_lemmas.specs.TalkFrame.{IsShownAs, shown-itself}
 use Rattle.cg_agree_lemmas.specs.TalkSame.{talk-same}
 use Rattle.cg_agree_lemmas.specs.ToldKept.{told_in-same}
+use Rattle.cg_model.specs.Played.{with_world}
 
 -- ---- the others behind a change of one
 
@@ -81,9 +81,6 @@ apart-down c d p life group nodes told =
     }
 
 -- the replica itself
-own-replica : (w : World) (p : ℕ) (life : NodeState) → replica_of (set_life w p life) p ≡ running life
-own-replica w p life = replica-set w p life p ∙ cond-true (p == p) (running life) (replica_of w p) (eq-eqb p p refl)
-
 -- ---- a crash
 
 crash-life : (c : Chronicle) (p : ℕ) (s : Node) (l : NodeState) → s.life ≡ l → is_some (running s.life) ≡ true → TalkFacts c → TalkFacts (crash_as c p l)
@@ -91,7 +88,7 @@ crash-life c p s (DownLife disk green) is runs old = old
 crash-life c p s (Up r disk) is runs old =
     let d = crash_as c p (Up r disk) in
     talk-apart c d p Down (apart-down c d p (DownLife (at_rest disk) []) refl (λ q. refl) refl)
-    (subst (λ o. IfSome o (IsStateIn d p Down)) (sym (own-replica c.world p (DownLife (at_rest disk) []))) tt) old
+    (subst (λ o. IfSome o (IsStateIn d p Down)) (sym (replica_of-set c.world p (DownLife (at_rest disk) []))) tt) old
 
 pub talk-crashes : (c : Chronicle) (p : ℕ) → is_running c p ≡ true → TalkFacts c → TalkFacts (small_step c (Crashes p))
 unfolding small_step
@@ -113,7 +110,7 @@ recover-life c p s (DownLife disk green) is e nodes old =
     let me = (recovered disk).held.id in
     let life : NodeState = Up (recovered disk) (disk_recovered disk) in
     talk-apart c d me Alone (apart-up c d me life refl (λ q. refl) refl)
-    (subst (λ o. IfSome o (IsStateIn d me Alone)) (sym (own-replica c.world me life)) (recovered-state disk)) old
+    (subst (λ o. IfSome o (IsStateIn d me Alone)) (sym (replica_of-set c.world me life)) (recovered-state disk)) old
 
 pub talk-recovers : (c : Chronicle) (p : ℕ) → Hosted c → has_begun c.world p ≡ true → TalkFacts c → TalkFacts (small_step c (Recovers p))
 unfolding small_step
@@ -123,10 +120,6 @@ talk-recovers c p nodes begun old =
     (recover-life c p hosted.node hosted.node.life refl hosted.there nodes old)
 
 -- ---- snapshots, and a joiner begins
-
-shown-itself : (o : Option Replica) → IsShownAs o o
-shown-itself None = tt
-shown-itself (Some r) = (refl, refl)
 
 -- two chronicles with one group, one list of replicas and one of what was told
 pub one-talk : (c d : Chronicle) → d.world.group ≡ c.world.group → ((q : ℕ) → replica_of d.world q ≡ replica_of c.world q) → d.told ≡ c.told → TalkFacts c → TalkFacts d
@@ -156,18 +149,18 @@ talk-joins c joiner may old =
     let d = join_with c joiner may.snapshot.content in
     let life : NodeState = Up r (new_disk r.held) in
     talk-apart c d joiner Alone (apart-up c d joiner life refl (λ q. refl) refl)
-    (subst (λ o. IfSome o (IsStateIn d joiner Alone)) (sym (own-replica c.world joiner life)) refl) old)
+    (subst (λ o. IfSome o (IsStateIn d joiner Alone)) (sym (replica_of-set c.world joiner life)) refl) old)
 
 -- ---- the start
 
-talk-begun : (c : Chronicle) (set : List Weighted) (replicas : List ℕ) (w : World) → TalkFacts (in_world c w) → TalkFacts (in_world c (fold (begin_replica set) w replicas))
+talk-begun : (c : Chronicle) (set : List Weighted) (replicas : List ℕ) (w : World) → TalkFacts (with_world c w) → TalkFacts (with_world c (fold (begin_replica set) w replicas))
 talk-begun c set [] w old = old
 talk-begun c set (p ∷ replicas) w old =
     let life : NodeState = Up (fresh p set) (new_disk (fresh p set).held) in
     talk-begun c set replicas (begin_replica set w p)
-    (talk-apart (in_world c w) (in_world c (begin_replica set w p)) p Alone (apart-up (in_world c w) (in_world c (begin_replica set w p)) p life refl (λ q. refl) refl)
-    (subst (λ o. IfSome o (IsStateIn (in_world c (begin_replica set w p)) p Alone)) (sym (own-replica w p life)) refl) old)
+    (talk-apart (with_world c w) (with_world c (begin_replica set w p)) p Alone (apart-up (with_world c w) (with_world c (begin_replica set w p)) p life refl (λ q. refl) refl)
+    (subst (λ o. IfSome o (IsStateIn (with_world c (begin_replica set w p)) p Alone)) (sym (replica_of-set w p life)) refl) old)
 
 pub talk-starts : (c : Chronicle) (set : List Weighted) → TalkFacts c → TalkFacts (small_step c (Starts set))
 unfolding small_step
-talk-starts c set old = one-talk (in_world c (fold (begin_replica set) c.world (ids set))) (start c set) refl (λ q. refl) refl (talk-begun c set (ids set) c.world old)
+talk-starts c set old = one-talk (with_world c (fold (begin_replica set) c.world (ids set))) (start c set) refl (λ q. refl) refl (talk-begun c set (ids set) c.world old)

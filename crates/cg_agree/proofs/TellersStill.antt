@@ -35,10 +35,11 @@ use Rattle.cg_agree.proofs.BegunKept.{nothing-before}
 use Rattle.cg_agree_lemmas.specs.ToldKept.{IsUntold}
 use Rattle.cg_agree_lemmas.specs.OneSteps.{may-join}
 use Rattle.cg_agree_lemmas.specs.HandsNow.{hands-now, hands-regular}
-use Rattle.cg_agree_lemmas.specs.HandsKept.{regular-phase, regular-up}
+use Rattle.cg_agree_lemmas.specs.HandsKept.{regular-phase}
 use Rattle.cg_agree_lemmas.specs.EntryGreens.{nothing-new}
 use Rattle.cg_agree_lemmas.specs.GreenMembers.{creates-same}
 use Rattle.cg_agree_lemmas.specs.TurnAlong.{commit-same}
+use Rattle.cg_group.specs.RefusalLaws.{regular-up}
 
 -- ---- a turn in which nothing becomes green
 

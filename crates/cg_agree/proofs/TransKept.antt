@@ -44,11 +44,9 @@ use Rattle.cg_agree.proofs.TalkAlone.{replica-set}
 use Rattle.cg_agree.proofs.TalkQuiet.{replica-turning}
 use Rattle.cg_agree_lemmas.specs.TurnParts.{newest-come}
 use Rattle.cg_agree_lemmas.specs.TurnValues.{SameValues, even-settle, even-request, even-own_to_red}
+use Rattle.cg_agree_lemmas.specs.Looking.{greens-in}
 
 -- ---- one replica
-
-abbrev greens-in : Option Past → List Action
-greens-in o = option_map_or (λ x. x.greens) o []
 
 abbrev pub is_trans : State → Bool
 is_trans TransPrim = true

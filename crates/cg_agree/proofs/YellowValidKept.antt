@@ -6,9 +6,6 @@ use Rattle.std.proofs.lemmas.Bool.{and_parts, false_from_ne_true}
 use Rattle.cg_base.specs.declared.weighted.Weighted.{Weighted}
 use Rattle.cg_base.specs.Text.{is_nil}
 use Rattle.cg_base.specs.Weights.{ids}
-use Rattle.cg_knowledge.specs.declared.summary.Summary.{Summary}
-use Rattle.cg_knowledge.specs.Yellow.{yellow_group, yellow_of as yellow_in, common_yellow}
-use Rattle.cg_knowledge.specs.Summaries.{lowest}
 use Rattle.cg_client.specs.Replica.{Held, Replica, fresh}
 use Rattle.cg_client.specs.Turn.{Turn, begin}
 use Rattle.cg_client.specs.Requests.{settle}
@@ -36,6 +33,7 @@ use Rattle.cg_agree.proofs.TalkAlone.{replica-set, recovered-state}
 use Rattle.cg_agree_lemmas.specs.TurnKinds.{IsQuiet, HasInstalled, Turned, Quiet, Installs, Decides, Attempts}
 use Rattle.cg_agree_lemmas.specs.TurnParts.{HasParted, never-both, settle-quiet, request-quiet, parting-turned, newest-come}
 use Rattle.cg_agree_lemmas.specs.ListStill.{when-from}
+use Rattle.cg_agree_lemmas.specs.PartsNamed.{none-invalid}
 
 abbrev HasValid : Replica → Type 0
 HasValid r = When (is_attempting r.state) (r.held.yellow_valid ≡ false → r.held.queue.yellow ≡ [])
@@ -50,13 +48,6 @@ quiet-valid r new' quiet valid = when-from (is_attempting new'.state) (new'.held
 
 installed-valid : (r new' : Replica) → HasInstalled r new' → HasValid new'
 installed-valid r new' done = not-attempting new' (false_from_ne_true (is_attempting new'.state) (λ is. never-both new'.state is done.after))
-
-none-invalid : (heard : List Summary) → (common_yellow heard).valid ≡ false → (common_yellow heard).list ≡ []
-unfolding common_yellow
-none-invalid heard e = at (lowest (yellow_group heard)) e where
-  at : (o : Option Summary) → (yellow_in heard o).valid ≡ false → (yellow_in heard o).list ≡ []
-  at None e = refl
-  at (Some s) e = absurd (let clash : true ≡ false = e in cc)
 
 -- ---- nodes
 

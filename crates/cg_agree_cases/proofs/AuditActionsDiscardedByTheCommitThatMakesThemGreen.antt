@@ -4,12 +4,13 @@ use Rattle.cg_action.specs.declared.command.Cmd.TheVariants.{Put}
 use Rattle.cg_action.specs.declared.value.Value.TheVariants.{Int}
 use Rattle.cg_schedule.specs.declared.event.Event.{Event}
 use Rattle.cg_schedule.specs.declared.event.Event.TheVariants.{Start, Merge, Request, Show, ShowOrder, Rounds, Join, Leave, Transfer}
-use Rattle.cg_agree_cases.specs.Audit.{unweighted, tried}
+use Rattle.cg_agree_cases.specs.Audit.{tried}
 use Rattle.cg_agree_cases.specs.Computing.{cases_compute}
+use Rattle.cg_base.specs.Weights.{each_once}
 
 abbrev actions_discarded_by_the_commit_that_makes_them_green : List Event
 actions_discarded_by_the_commit_that_makes_them_green =
-    Start (unweighted (1 ∷ []))
+    Start (each_once (1 ∷ []))
     ∷ Merge (1 ∷ [])
     ∷ Rounds 2
     ∷ Join 1 24 1

@@ -2,12 +2,13 @@
 use Rattle.std.specs.Prelude.{◌≡◌, refl, List, [], ◌∷◌}
 use Rattle.cg_schedule.specs.declared.event.Event.{Event}
 use Rattle.cg_schedule.specs.declared.event.Event.TheVariants.{Start, Split, Merge, Order, Gather, Receive, Deliver, Rounds}
-use Rattle.cg_agree_cases.specs.Audit.{unweighted, tried}
+use Rattle.cg_agree_cases.specs.Audit.{tried}
 use Rattle.cg_agree_cases.specs.Computing.{cases_compute}
+use Rattle.cg_base.specs.Weights.{each_once}
 
 abbrev attempt_cleared_by_another_primary_from_its_index : List Event
 attempt_cleared_by_another_primary_from_its_index =
-    Start (unweighted (1 ∷ 2 ∷ 3 ∷ 4 ∷ 5 ∷ []))
+    Start (each_once (1 ∷ 2 ∷ 3 ∷ 4 ∷ 5 ∷ []))
     ∷ Merge (1 ∷ 2 ∷ 3 ∷ 4 ∷ 5 ∷ [])
     ∷ Rounds 2
     ∷ Split (1 ∷ 2 ∷ 3 ∷ [])

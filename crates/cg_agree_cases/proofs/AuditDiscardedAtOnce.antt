@@ -2,12 +2,13 @@
 use Rattle.std.specs.Prelude.{◌≡◌, refl, List, [], ◌∷◌}
 use Rattle.cg_schedule.specs.declared.event.Event.{Event}
 use Rattle.cg_schedule.specs.declared.event.Event.TheVariants.{Start, Merge, Show, ShowOrder, Gather, Deliver, Rounds, Join, Leave}
-use Rattle.cg_agree_cases.specs.Audit.{unweighted, tried}
+use Rattle.cg_agree_cases.specs.Audit.{tried}
 use Rattle.cg_agree_cases.specs.Computing.{cases_compute}
+use Rattle.cg_base.specs.Weights.{each_once}
 
 abbrev discarded_at_once : List Event
 discarded_at_once =
-    Start (unweighted (1 ∷ []))
+    Start (each_once (1 ∷ []))
     ∷ Merge (1 ∷ [])
     ∷ Rounds 2
     ∷ Join 1 2 1

@@ -2,12 +2,13 @@
 use Rattle.std.specs.Prelude.{◌≡◌, refl, List, [], ◌∷◌}
 use Rattle.cg_schedule.specs.declared.event.Event.{Event}
 use Rattle.cg_schedule.specs.declared.event.Event.TheVariants.{Start, Merge, Recover, Show, ShowOrder, Gather, Deliver, Rounds, Stop, Join, Leave}
-use Rattle.cg_agree_cases.specs.Audit.{unweighted, tried}
+use Rattle.cg_agree_cases.specs.Audit.{tried}
 use Rattle.cg_agree_cases.specs.Computing.{cases_compute}
+use Rattle.cg_base.specs.Weights.{each_once}
 
 abbrev discarded_struck : List Event
 discarded_struck =
-    Start (unweighted (1 ∷ 2 ∷ []))
+    Start (each_once (1 ∷ 2 ∷ []))
     ∷ Merge (1 ∷ 2 ∷ [])
     ∷ Rounds 2
     ∷ Leave 1 1

@@ -4,12 +4,13 @@ use Rattle.cg_action.specs.declared.command.Cmd.TheVariants.{Put}
 use Rattle.cg_action.specs.declared.value.Value.TheVariants.{Int}
 use Rattle.cg_schedule.specs.declared.event.Event.{Event}
 use Rattle.cg_schedule.specs.declared.event.Event.TheVariants.{Start, Split, Merge, Request, Gather, Deliver, Rounds}
-use Rattle.cg_agree_cases.specs.Audit.{unweighted, tried}
+use Rattle.cg_agree_cases.specs.Audit.{tried}
 use Rattle.cg_agree_cases.specs.Computing.{cases_compute}
+use Rattle.cg_base.specs.Weights.{each_once}
 
 abbrev drawn_3872 : List Event
 drawn_3872 =
-    Start (unweighted (1 ∷ 2 ∷ []))
+    Start (each_once (1 ∷ 2 ∷ []))
     ∷ Merge (1 ∷ [])
     ∷ Split (1 ∷ [])
     ∷ Request 2 (Put (codes "x") (Int (pos 1)) ∷ []) None

@@ -4,13 +4,14 @@ use Rattle.cg_action.specs.declared.command.Cmd.TheVariants.{Put}
 use Rattle.cg_action.specs.declared.value.Value.TheVariants.{Int}
 use Rattle.cg_schedule.specs.declared.event.Event.{Event}
 use Rattle.cg_schedule.specs.declared.event.Event.TheVariants.{Start, Merge, Request, Recover, Gather, Deliver, Rounds, Fail}
-use Rattle.cg_agree_cases.specs.Audit.{unweighted, tried}
+use Rattle.cg_agree_cases.specs.Audit.{tried}
 use Rattle.cg_agree_cases.specs.Computing.{cases_compute}
+use Rattle.cg_base.specs.Weights.{each_once}
 
 -- the commit in which replica 1 marks its action green fails at this call
 abbrev failing_mark : ℕ → List Event
 failing_mark call =
-    Start (unweighted (1 ∷ 2 ∷ 3 ∷ []))
+    Start (each_once (1 ∷ 2 ∷ 3 ∷ []))
     ∷ Merge (1 ∷ 2 ∷ 3 ∷ [])
     ∷ Rounds 2
     ∷ Request 1 (Put (codes "x") (Int (pos 1)) ∷ []) None

@@ -5,13 +5,14 @@ use Rattle.cg_action.specs.declared.command.Cmd.TheVariants.{Put}
 use Rattle.cg_action.specs.declared.value.Value.TheVariants.{Int}
 use Rattle.cg_schedule.specs.declared.event.Event.{Event}
 use Rattle.cg_schedule.specs.declared.event.Event.TheVariants.{Start, Split, Merge, Request, Recover, RecoverStopped, Downgrade, Rounds, Stop}
-use Rattle.cg_agree_cases.specs.Audit.{unweighted, tried}
+use Rattle.cg_agree_cases.specs.Audit.{tried}
 use Rattle.cg_agree_cases.specs.Computing.{cases_compute}
+use Rattle.cg_base.specs.Weights.{each_once}
 
 -- replica 1 goes down with what it has ordered, its disk becomes one of the older format, and these are its recoveries
 abbrev older : List Event → List Event
 older recoveries =
-    (Start (unweighted (1 ∷ 2 ∷ 3 ∷ []))
+    (Start (each_once (1 ∷ 2 ∷ 3 ∷ []))
     ∷ Merge (1 ∷ 2 ∷ 3 ∷ [])
     ∷ Rounds 2
     ∷ Request 1 (Put (codes "x") (Int (pos 1)) ∷ []) None

@@ -5,12 +5,13 @@ use Rattle.cg_action.specs.declared.query.Query.TheVariants.{Get}
 use Rattle.cg_action.specs.declared.value.Value.TheVariants.{Int}
 use Rattle.cg_schedule.specs.declared.event.Event.{Event}
 use Rattle.cg_schedule.specs.declared.event.Event.TheVariants.{Start, Split, Merge, Request, Weak, Dirty, ShowOrder, Rounds}
-use Rattle.cg_agree_cases.specs.Audit.{unweighted, tried}
+use Rattle.cg_agree_cases.specs.Audit.{tried}
 use Rattle.cg_agree_cases.specs.Computing.{cases_compute}
+use Rattle.cg_base.specs.Weights.{each_once}
 
 abbrev red_action_of_a_minority_is_ordered_after_the_merge : List Event
 red_action_of_a_minority_is_ordered_after_the_merge =
-    Start (unweighted (1 ∷ 2 ∷ 3 ∷ []))
+    Start (each_once (1 ∷ 2 ∷ 3 ∷ []))
     ∷ Merge (1 ∷ 2 ∷ 3 ∷ [])
     ∷ Rounds 2
     ∷ Split (1 ∷ 2 ∷ [])

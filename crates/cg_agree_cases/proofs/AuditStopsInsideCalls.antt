@@ -4,13 +4,14 @@ use Rattle.cg_action.specs.declared.command.Cmd.TheVariants.{Put}
 use Rattle.cg_action.specs.declared.value.Value.TheVariants.{Int}
 use Rattle.cg_schedule.specs.declared.event.Event.{Event}
 use Rattle.cg_schedule.specs.declared.event.Event.TheVariants.{Start, Split, Merge, Request, Recover, Rounds, Stop}
-use Rattle.cg_agree_cases.specs.Audit.{unweighted, tried}
+use Rattle.cg_agree_cases.specs.Audit.{tried}
 use Rattle.cg_agree_cases.specs.Computing.{cases_compute}
+use Rattle.cg_base.specs.Weights.{each_once}
 
 -- replica 1 crashes inside the call of this number, of which these bytes are written
 abbrev stopped : ℕ → List ℕ → List Event
 stopped call bytes =
-    Start (unweighted (1 ∷ 2 ∷ 3 ∷ []))
+    Start (each_once (1 ∷ 2 ∷ 3 ∷ []))
     ∷ Stop 1 call bytes
     ∷ Merge (1 ∷ 2 ∷ 3 ∷ [])
     ∷ Rounds 2

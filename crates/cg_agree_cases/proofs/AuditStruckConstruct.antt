@@ -2,12 +2,13 @@
 use Rattle.std.specs.Prelude.{◌≡◌, refl, List, [], ◌∷◌}
 use Rattle.cg_schedule.specs.declared.event.Event.{Event}
 use Rattle.cg_schedule.specs.declared.event.Event.TheVariants.{Start, Split, Merge, Recover, Gather, Deliver, Rounds, Stop}
-use Rattle.cg_agree_cases.specs.Audit.{unweighted, tried}
+use Rattle.cg_agree_cases.specs.Audit.{tried}
 use Rattle.cg_agree_cases.specs.Computing.{cases_compute}
+use Rattle.cg_base.specs.Weights.{each_once}
 
 abbrev struck_construct : List Event
 struck_construct =
-    Start (unweighted (1 ∷ 2 ∷ 3 ∷ []))
+    Start (each_once (1 ∷ 2 ∷ 3 ∷ []))
     ∷ Merge (1 ∷ 2 ∷ 3 ∷ [])
     ∷ Gather
     ∷ Stop 1 3 (1 ∷ [])

@@ -4,12 +4,13 @@ use Rattle.cg_action.specs.declared.command.Cmd.TheVariants.{Put}
 use Rattle.cg_action.specs.declared.value.Value.TheVariants.{Int}
 use Rattle.cg_schedule.specs.declared.event.Event.{Event}
 use Rattle.cg_schedule.specs.declared.event.Event.TheVariants.{Start, Split, Merge, Request, Recover, Gather, Deliver, Rounds, Stop}
-use Rattle.cg_agree_cases.specs.Audit.{unweighted, tried}
+use Rattle.cg_agree_cases.specs.Audit.{tried}
 use Rattle.cg_agree_cases.specs.Computing.{cases_compute}
+use Rattle.cg_base.specs.Weights.{each_once}
 
 abbrev vulnerable_holder_outside_the_last_primary : List Event
 vulnerable_holder_outside_the_last_primary =
-    Start (unweighted (1 ∷ 2 ∷ 3 ∷ 4 ∷ []))
+    Start (each_once (1 ∷ 2 ∷ 3 ∷ 4 ∷ []))
     ∷ Merge (1 ∷ 2 ∷ 3 ∷ [])
     ∷ Rounds 2
     ∷ Split (1 ∷ 2 ∷ [])

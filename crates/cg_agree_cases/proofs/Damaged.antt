@@ -14,13 +14,14 @@ use Rattle.cg_agree_cases.specs.TestsExchange.{summary_of_sender}
 use Rattle.cg_agree_cases.specs.TestsAttempts.{attempt_shape, levels_stand}
 use Rattle.cg_agree_cases.specs.TestsGreens.{one_order, primary_greens}
 use Rattle.cg_agree_cases.specs.TestsBooks.{order_book}
-use Rattle.cg_agree_cases.specs.Audit.{unweighted, tried}
+use Rattle.cg_agree_cases.specs.Audit.{tried}
 use Rattle.cg_agree_cases.specs.Computing.{cases_compute}
+use Rattle.cg_base.specs.Weights.{each_once}
 
 -- a primary component of three replicas, with two green actions
 abbrev two_greens : List Event
 two_greens =
-    Start (unweighted (1 ∷ 2 ∷ 3 ∷ []))
+    Start (each_once (1 ∷ 2 ∷ 3 ∷ []))
     ∷ Merge (1 ∷ 2 ∷ 3 ∷ [])
     ∷ Rounds 2
     ∷ Request 1 (Put (codes "x") (Int (pos 1)) ∷ []) None
@@ -59,7 +60,7 @@ unreceived c =
 
 -- a fourth server was there from the start
 abbrev widened : Chronicle → Chronicle
-widened c = record c { start = unweighted (1 ∷ 2 ∷ 3 ∷ 4 ∷ []) }
+widened c = record c { start = each_once (1 ∷ 2 ∷ 3 ∷ 4 ∷ []) }
 
 abbrev printed_otherwise : Chronicle → Chronicle
 printed_otherwise c = let w = c.world in record c { world = record w { order = reverse w.order } }

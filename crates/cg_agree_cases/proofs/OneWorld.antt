@@ -13,8 +13,8 @@ use Rattle.cg_model.specs.Admission.{first_refusal}
 use Rattle.cg_model.specs.Show.{Moved}
 use Rattle.cg_model.specs.Step.{world_step}
 use Rattle.cg_model.specs.Making.{newly_made}
-use Rattle.cg_agree_cases.specs.Audit.{unweighted}
 use Rattle.cg_agree_cases.specs.Computing.{cases_compute}
+use Rattle.cg_base.specs.Weights.{each_once}
 
 -- a world, with what was shown as made on the way
 record Course : Type 0 where
@@ -36,7 +36,7 @@ abbrev put : ℕ → Event
 put n = Request 1 (Put (codes "x") (Int (pos n)) ∷ []) None
 
 abbrev begun : Course
-begun = heard (heard (fold went (record { world = no_world; made = [] }) (Start (unweighted (1 ∷ [])) ∷ Merge (1 ∷ []) ∷ [])))
+begun = heard (heard (fold went (record { world = no_world; made = [] }) (Start (each_once (1 ∷ [])) ∷ Merge (1 ∷ []) ∷ [])))
 
 -- it is asked to put the number, and then is alone before it hears of that
 abbrev asked : ℕ → Course

@@ -1,6 +1,5 @@
 -- Schedules played by small steps, with every fact tried after each.
-use Rattle.std.specs.Prelude.{ℕ, zero, suc, ◌==◌, Bool, true, false, is_none, List, [], ◌∷◌, ◌++◌, map, fold, if◌then◌else◌}
-use Rattle.cg_base.specs.declared.weighted.Weighted.{Weighted}
+use Rattle.std.specs.Prelude.{ℕ, zero, suc, ◌==◌, Bool, true, false, is_none, List, [], ◌∷◌, ◌++◌, fold, if◌then◌else◌}
 use Rattle.cg_base.specs.Text.{is_nil}
 use Rattle.cg_group.specs.Ready.{ready}
 use Rattle.cg_schedule.specs.declared.event.Event.{Event}
@@ -100,9 +99,6 @@ failing_at_end c =
 -- ---- runs
 
 -- each of the replicas with weight 1
-abbrev pub unweighted : List ℕ → List Weighted
-unweighted set = map (λ p. record { id = p; weight = 1 }) set
-
 -- the chronicle so far, the world that the events lead to, which stands beside it, and the facts that failed where the first
 -- ones did
 pub record Tried : Type 0 where

@@ -32,14 +32,13 @@ use Rattle.cg_agree_lemmas.specs.CoresKept.{node-of}
 use Rattle.cg_agree_lemmas.specs.CoresSmall.{start-cores}
 use Rattle.cg_agree_lemmas.specs.BookGrows.{named_in, IsNamed, cut_of, IsCounted}
 use Rattle.cg_disk_records.specs.RunMarkLaws.{run-names}
+use Rattle.cg_disk_records.specs.HeldLaws.{whitened-created}
+use Rattle.cg_agree_lemmas.specs.Looking.{core_in}
 
 pub record BookCounts (c : Chronicle) : Type 0 where
   pub numbered : run_on [] (names_of c.book) ≡ true
   pub counted : (p : ℕ) → IfSome (core_of c p) (λ h. index_in (cut_of c.book) p ≡ created h)
   pub unbegun : (p : ℕ) → has_begun c.world p ≡ false → index_in (cut_of c.book) p ≡ 0
-
-abbrev core_in : Option Node → Option Held
-core_in o = option_map (λ s. held_in s.life) o
 
 -- ---- one node changes
 
@@ -108,10 +107,6 @@ counts-turning c b p part nodes book sound is = at (node_of b.world p) refl wher
   at (Some s) e = life s s.life refl e
 
 -- ---- commits, crashes, recoveries
-
-whitened-created : (h : Held) → created (whiten h) ≡ created h
-unfolding whiten
-whitened-created h = refl
 
 pub counts-commit : (c : Chronicle) (p : ℕ) (s : Node) → node_of c.world p ≡ Some s → (l : NodeState) → s.life ≡ l → BookCounts c → BookCounts (commit_as c p l)
 counts-commit c p s e (Down disk green) life is = is

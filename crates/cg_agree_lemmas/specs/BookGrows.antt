@@ -1,6 +1,6 @@
 -- The book of all actions grows by what a replica makes: each next action is the next of its creator, so that a name stands for one.
-use Rattle.std.proofs.Common.{◌≡◌, ℕ, suc, max, Bool, true, false, cond, ◌||◌, List, [], ◌∷◌, ◌++◌, fold, find, append-nil, append_assoc, Option, Some, None, refl, sym, ap, ◌∙◌, subst, arith, inl, inr}
-use Rattle.std.proofs.lemmas.Bool.{cases_Bool, cond-true, cond-false, and_parts, false_from_ne_true}
+use Rattle.std.proofs.Common.{length, ◌≡◌, ℕ, suc, max, Bool, true, false, cond, ◌||◌, List, [], ◌∷◌, ◌++◌, fold, find, append-nil, append_assoc, Option, Some, None, refl, sym, ap, ◌∙◌, subst, arith, inl, inr, Contains, ◌<◌, zero}
+use Rattle.std.proofs.lemmas.Bool.{cases_Bool, cond-true, cond-false, and_parts, false_from_ne_true, or_cases}
 use Rattle.cg_base.specs.Lists.{Each}
 use Rattle.cg_base.specs.declared.action_id.ActionId.{ActionId}
 use Rattle.cg_base.specs.Cuts.{index_in, raise}
@@ -19,6 +19,7 @@ use Rattle.cg_disk_records.specs.RunMarkLaws.{names-new, run-head}
 use Rattle.cg_disk_records.specs.HeldLaws.{names-behind, created-behind}
 use Rattle.cg_agree_lemmas.specs.DiskAhead.{OwnRuns}
 use Rattle.cg_disk_records.specs.HoldsValueLaws.{mine-behind}
+use Rattle.std.proofs.lemmas.List.Elements.{Contains-append_right}
 
 -- the action of a name
 abbrev pub named_in : List Action → ActionId → Option Action
@@ -29,7 +30,7 @@ IsNamed book a = named_in book a.id ≡ Some a
 
 -- ---- in a list in which each is the next of its creator a name stands for one action
 
-found-more : (xs ys : List Action) (id : ActionId) (a : Action) → named_in xs id ≡ Some a → named_in (xs ++ ys) id ≡ Some a
+pub found-more : (xs ys : List Action) (id : ActionId) (a : Action) → named_in xs id ≡ Some a → named_in (xs ++ ys) id ≡ Some a
 found-more [] ys id a e = absurd (let clash : None ≡ Some a = e in cc)
 found-more (x ∷ xs) ys id a e = elim (cases_Bool (same_id x.id id)) [
   | inl here ↦ cond-true (same_id x.id id) (Some x) (named_in (xs ++ ys) id) here ∙ sym (cond-true (same_id x.id id) (Some x) (named_in xs id) here) ∙ e
@@ -171,3 +172,34 @@ counted-first book r run counted own = record {
   others = λ q apart. ap (λ xs. index_in (cut_of xs) q) (append-nil book);
   own = own;
 }
+
+-- a name that stands in a list is found there
+pub record IsFoundIn (list : List Action) (id : ActionId) : Type 0 where
+  pub action : Action
+  pub found : named_in list id ≡ Some action
+  pub name : action.id ≡ id
+  pub there : Contains list action
+
+pub named-found : (list : List Action) (id : ActionId) → has_name (names_of list) id ≡ true → IsFoundIn list id
+named-found [] id is = absurd (let clash : false ≡ true = is in cc)
+named-found (a ∷ list) id is = elim (cases_Bool (same_id a.id id)) [
+  | inl here ↦ record {
+    action = a;
+    found = cond-true (same_id a.id id) (Some a) (named_in list id) here;
+    name = same_id-is a.id id here;
+    there = (zero, (let less : 0 < suc (length list) = omega arith in less), refl);
+  }
+  | inr other ↦
+      let rest = named-found list id (elim (or_cases (same_id id a.id) (has_name (names_of list) id) is) [
+        | inl here ↦ absurd (let same : id ≡ a.id = same_id-is id a.id here in
+            let self : same_id a.id id ≡ true = subst (λ (x : ActionId). same_id a.id x ≡ true) (sym same) (same_id-self a.id) in
+            let clash : true ≡ false = sym self ∙ other in cc)
+        | inr later ↦ later
+      ]) in
+      record {
+        action = rest.action;
+        found = cond-false (same_id a.id id) (Some a) (named_in list id) other ∙ rest.found;
+        name = rest.name;
+        there = Contains-append_right (a ∷ []) list rest.action rest.there;
+      }
+]

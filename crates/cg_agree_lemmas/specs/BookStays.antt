@@ -48,7 +48,7 @@ by_snapshot : (c : Chronicle) (joiner : ℕ) (o : Option TransferState) → (opt
 by_snapshot c joiner None = refl
 by_snapshot c joiner (Some s) = refl
 
-book-on : (c : Chronicle) (s : Small) → BookGoesOn c (small_step c s)
+pub book-on : (c : Chronicle) (s : Small) → BookGoesOn c (small_step c s)
 unfolding small_step
 book-on c (Starts set) = same-book c _ refl
 book-on c (Makes set) = same-book c _ refl

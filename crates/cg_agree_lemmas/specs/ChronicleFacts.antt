@@ -1,5 +1,5 @@
 -- What is found in a chronicle behind a turn.
-use Rattle.std.proofs.Common.{◌≡◌, ℕ, Bool, true, false, cond, List, [], ◌∷◌, ◌++◌, Option, Some, None, find, refl, sym, ap, ◌∙◌, eqb-true, eq-eqb, option_map, nat_lt}
+use Rattle.std.proofs.Common.{◌≡◌, ℕ, Bool, true, false, cond, List, [], ◌∷◌, ◌++◌, Option, Some, None, find, refl, sym, ap, ◌∙◌, eqb-true, eq-eqb, option_map, nat_lt, option_and_then}
 use Rattle.std.specs.Prelude.{◌==◌}
 use Rattle.std.specs.Option.{option_map_or}
 use Rattle.std.proofs.lemmas.Bool.{cond-true, cond-false, cond_both, ne_eqb, eqb-false}
@@ -7,7 +7,7 @@ use Rattle.cg_client.specs.Replica.{Replica}
 use Rattle.cg_client.specs.Turn.{Turn}
 use Rattle.cg_disk_records.specs.Crash.{Disk}
 use Rattle.cg_group.specs.LookupLaws.{at-cond}
-use Rattle.cg_model.specs.World.{NodeState, World, node_of, set_life}
+use Rattle.cg_model.specs.World.{NodeState, World, node_of, set_life, Node, replica_of, running}
 use Rattle.cg_model.specs.Chronicle.{Past, Chronicle}
 use Rattle.cg_model.specs.Looks.{past_of, greens_of}
 use Rattle.cg_model.specs.Small.{after_turn, newly_green, with_greens, with_past}
@@ -56,3 +56,8 @@ past-begun (x ∷ pasts) new q absent =
       swapped true true x y o h = absurd (let clash : true ≡ false = h refl in cc)
       swapped true false x y o h = refl
       swapped false b x y o h = refl
+
+pub replica_of-set : (w : World) (p : ℕ) (life : NodeState) → replica_of (set_life w p life) p ≡ running life
+replica_of-set w p life =
+    ap (λ (o : Option Node). option_and_then (λ s. running s.life) o)
+    (node_of-set w p life p ∙ cond-true (p == p) (Some (let s : Node = record { id = p; life = life } in s)) (node_of w p) (eq-eqb p p refl))

@@ -1,7 +1,7 @@
 -- A fact of every core (what a replica holds in memory, on its disk, and in a snapshot) through a small step: it has to stand
 -- behind a commit, a recovery and a joining, and behind the turn where a replica has one.
 use Rattle.std.proofs.Common.{◌≡◌, ℕ, ◌≢◌, true, false, cond, not, List, [], ◌++◌, find, filter, Option, Some, None, IfSome, is_some, refl, sym, ap, ap₂, ◌∙◌, subst, inl, inr, eqb-true, eq-eqb, option_map}
-use Rattle.std.specs.Prelude.{◌==◌, option_and_then}
+use Rattle.std.specs.Prelude.{◌==◌}
 use Rattle.std.specs.Option.{option_map_or}
 use Rattle.std.proofs.lemmas.Bool.{cases_eq, cond-true, cond-false, ne_eqb}
 use Rattle.cg_base.specs.declared.action_id.ActionId.{ActionId}
@@ -11,7 +11,7 @@ use Rattle.cg_client.specs.Replica.{Held, Replica}
 use Rattle.cg_client.specs.Turn.{Turn, begin}
 use Rattle.cg_disk_records.specs.Stored.{stored_of, whiten, recovery_turn as recover_disk}
 use Rattle.cg_disk_records.specs.Crash.{Disk, at_rest, recovered, disk_recovered}
-use Rattle.cg_model.specs.World.{NodeState, Up, Down, Node, TransferState, running, node_of, replica_of}
+use Rattle.cg_model.specs.World.{NodeState, Up, Down, Node, TransferState, node_of, replica_of}
 use Rattle.cg_model.specs.Step.{joiner_replica}
 use Rattle.cg_model.specs.Chronicle.{Past, Copy, Chronicle}
 use Rattle.cg_model.specs.Looks.{past_of, greens_of, stood_of, on_disk, disk_held, snapshot_of, copied_for, OfCores}
@@ -21,6 +21,7 @@ use Rattle.cg_agree_lemmas.specs.Keyed.{found-changed}
 use Rattle.cg_agree_lemmas.specs.HeldCommit.{recovered-id}
 use Rattle.cg_agree_lemmas.specs.OneselfWorld.{HavePasts, rehosted, stood-same}
 use Rattle.cg_agree_lemmas.specs.OneselfCopies.{found-without}
+use Rattle.cg_agree_lemmas.specs.Looking.{life_in, greens-in, stood-in, written-greens, written-stood, struck-stood, struck-greens}
 
 -- it stands behind what a commit, a recovery and a joining make of what is held
 pub record IsClosed (Q : Held → List Action → Type 0) : Type 0 where
@@ -49,17 +50,8 @@ cores-weaker P Q c weaker f = record {
   each None h all is = tt
   each (Some x) h all is = weaker (h x) (all x) is
 
-abbrev life_in : Option Node → Option Replica
-life_in o = option_and_then (λ s. running s.life) o
-
 abbrev disk_in : Option Node → Option Held
 disk_in o = option_map (λ s. on_disk s.life) o
-
-abbrev greens-in : Option Past → List Action
-greens-in o = option_map_or (λ x. x.greens) o []
-
-abbrev stood-in : Option Past → List Action
-stood-in o = option_map_or (λ x. x.stood) o []
 
 -- what is known of the memory and of the disk of a replica that is up
 pub held-known : (Q : Held → List Action → Type 0) (c : Chronicle) (p : ℕ) (r : Replica) → replica_of c.world p ≡ Some r → OfCores c Q → Q r.held (greens_of c p)
@@ -123,22 +115,6 @@ past-here change keeps c p = past-changed change keeps c p p ∙ cond-true (p ==
 pub past-there : (change : Past → Past) → ((x : Past) → (change x).id ≡ x.id) → (c : Chronicle) (p q : ℕ) → p ≢ q →
     (let d : Chronicle = record c { pasts = changed_past change p c.pasts } in past_of d q) ≡ past_of c q
 past-there change keeps c p q apart = past-changed change keeps c p q ∙ cond-false (q == p) (option_map change (past_of c q)) (past_of c q) (ne_eqb q p (λ e. apart (sym e)))
-
-written-greens : (o : Option Past) → greens-in (option_map written o) ≡ greens-in o
-written-greens None = refl
-written-greens (Some x) = refl
-
-written-stood : (o : Option Past) → stood-in (option_map written o) ≡ greens-in o
-written-stood None = refl
-written-stood (Some x) = refl
-
-struck-stood : (o : Option Past) → stood-in (option_map struck o) ≡ stood-in o
-struck-stood None = refl
-struck-stood (Some x) = refl
-
-struck-greens : (o : Option Past) → greens-in (option_map struck o) ≡ stood-in o
-struck-greens None = refl
-struck-greens (Some x) = refl
 
 pub commit-cores : (Q : Held → List Action → Type 0) (c : Chronicle) (p : ℕ) → IsHeldClosed Q → OfCores c Q → OfCores (commit c p) Q
 commit-cores Q c p closed f = at (node_of c.world p) refl where

@@ -98,7 +98,7 @@ pub fresh-all : (set : List Weighted) (list : List ℕ) (w : World) → IsFresh 
 fresh-all set [] w f = f
 fresh-all set (p ∷ list) w f = fresh-all set list (begin_replica set w p) (fresh-begun set w p f)
 
-snapshots-begun : (set : List Weighted) (list : List ℕ) (w : World) → (fold (begin_replica set) w list).snapshots ≡ w.snapshots
+pub snapshots-begun : (set : List Weighted) (list : List ℕ) (w : World) → (fold (begin_replica set) w list).snapshots ≡ w.snapshots
 snapshots-begun set [] w = refl
 snapshots-begun set (p ∷ list) w = snapshots-begun set list (begin_replica set w p)
 

@@ -5,7 +5,6 @@ use Rattle.std.proofs.lemmas.Bool.{cases_eq, eq-eqb, ltb-false, and_parts, not-f
 use Rattle.cg_base.specs.EachLaws.{Each-all}
 use Rattle.cg_base.specs.declared.action_id.ActionId.{ActionId}
 use Rattle.cg_base.specs.Cuts.{index_in, raise}
-use Rattle.cg_base.specs.Ids.{same_id}
 use Rattle.cg_base.specs.IdLaws.{same_id-true, same_id-false, same_name}
 use Rattle.cg_base.specs.Text.{is_nil}
 use Rattle.cg_base.specs.ListLaws.{is_nil-false}
@@ -23,7 +22,7 @@ use Rattle.cg_client.specs.Summary.{redden, forget_own, own_to_red}
 use Rattle.cg_disk_records.specs.Commit.{same_values, commits}
 use Rattle.cg_model.specs.FactsReplica.{GoesOn}
 use Rattle.cg_disk_records.specs.Holds.{run_on, Rising}
-use Rattle.cg_disk_records.specs.HeldLaws.{are_of, are-after, own-after, created-behind}
+use Rattle.cg_disk_records.specs.HeldLaws.{are_of, are-after, own-after, created-behind, after-there, after-here}
 use Rattle.cg_disk_records.specs.ValueLaws.{one-value}
 use Rattle.cg_agree_lemmas.specs.TurnRows.{IsRule}
 use Rattle.cg_disk_records.specs.CutRaiseLaws.{index-other, index-rises, rising-raise}
@@ -94,12 +93,6 @@ pub record LeftOwn (old : List Action) (red : List ActionId) (me : ℕ) (own lef
 
 abbrev pub later_own : List Action → List Action → Type 0
 later_own old own = (own ≡ drop (length old - length own) old) × (length own ≤ length old)
-
-after-here : (b : Action) (own : List Action) (id : ActionId) → same_id b.id id ≡ true → after_first (b ∷ own) id ≡ own
-after-here b own id same = rw same refl
-
-after-there : (b : Action) (own : List Action) (id : ActionId) → same_id b.id id ≡ false → after_first (b ∷ own) id ≡ b ∷ own
-after-there b own id apart = rw apart refl
 
 -- an own action that is known next is the first of those that weren't delivered
 pub left-own : (old : List Action) (red : List ActionId) (me : ℕ) (own : List Action) (id : ActionId) → Rising 0 red → run_on red (names_of own) ≡ true → are_of me own ≡ true →

@@ -7,7 +7,7 @@ use Rattle.std.proofs.lemmas.List.{map-append}
 use Rattle.cg_base.specs.declared.action_id.ActionId.{ActionId}
 use Rattle.cg_base.specs.declared.weighted.Weighted.{Weighted}
 use Rattle.cg_base.specs.Ids.{same_id, has_name}
-use Rattle.cg_base.specs.IdLaws.{same_id-false}
+use Rattle.cg_base.specs.IdLaws.{same_id-false, has_name-append}
 use Rattle.cg_action.specs.declared.action.Action.{Action}
 use Rattle.cg_queue.specs.Queue.{names_of}
 use Rattle.cg_wire.specs.declared.message.Msg.{Msg}
@@ -75,20 +75,13 @@ made-named : (made : List Action) → made_ids (map made_of_action made) ≡ nam
 made-named [] = refl
 made-named (a ∷ made) = ap (λ ids. a.id ∷ ids) (made-named made)
 
-pub names-both : (xs ys : List ActionId) (id : ActionId) → has_name (xs ++ ys) id ≡ (has_name xs id || has_name ys id)
-names-both [] ys id = refl
-names-both (x ∷ xs) ys id = ap (λ b. same_id id x || b) (names-both xs ys id) ∙ assoc (same_id id x) (has_name xs id) (has_name ys id) where
-  assoc : (a b c : Bool) → (a || (b || c)) ≡ ((a || b) || c)
-  assoc true b c = refl
-  assoc false b c = refl
-
 pub tell-said : (g : StepInProgress) (n : EventEffects) (p : ℕ) → AreAmong n.replies n.green → Said g (tell g n) p (names_of n.made) n.replies
 tell-said g n p among =
     let new = answered_from (n.count - length n.green) n.green n.replies in
     let all : plain new ≡ n.replies = answered-all n.green (n.count - length n.green) n.replies among in
     record {
       made = λ i. ap (λ ids. has_name ids (own_name p i)) (map-append (λ (m : Made). m.id) g.made (map made_of_action n.made) ∙ ap (λ ids. made_ids g.made ++ ids) (made-named n.made))
-          ∙ names-both (made_ids g.made) (names_of n.made) (own_name p i);
+          ∙ has_name-append (made_ids g.made) (names_of n.made) (own_name p i);
       count = λ i. times-all (own_name p i) new g.replies ∙ ap (λ rs. times (own_name p i) (ids_in g.replies) + times (own_name p i) (reply_ids rs)) all;
       from = λ r mine there. elim (in-all new g.replies r there) [ inl before ↦ inl before | inr now ↦ inr (subst (λ rs. IsIn rs r) all now) ];
     }

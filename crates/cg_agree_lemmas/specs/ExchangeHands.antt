@@ -45,7 +45,7 @@ best-same c d conf heard told = at (most_updated heard) where
   at (Some s) = told conf s.id
 
 -- a part that is sent changes nothing of the replica
-sent-replica : (t : Turn) (o : Option Part) → (send_part t o).replica ≡ t.replica
+pub sent-replica : (t : Turn) (o : Option Part) → (send_part t o).replica ≡ t.replica
 unfolding send_part
 sent-replica t None = refl
 sent-replica t (Some part) = refl

@@ -18,8 +18,8 @@ use Rattle.cg_client.specs.Marks.{marked, with_green, place_green}
 use Rattle.cg_client.specs.Requests.{is_creating, create, create_kept, empty_buffer, buffer, settle, request_in, request}
 use Rattle.cg_client.specs.Summary.{redden, forget_own, own_to_red}
 use Rattle.cg_model.specs.Small.{newly_green, take_all}
-use Rattle.cg_agree_lemmas.specs.KeptEmpty.{anything}
 use Rattle.cg_agree_lemmas.specs.TurnRows.{IsRule, of-deliveries}
+use Rattle.cg_model.specs.RowLaws.{any-deliveries}
 
 -- what is held follows what was held: these became green
 pub record FollowsGreens (old h : Held) : Type 0 where
@@ -101,7 +101,7 @@ follows-rule old = record {
 -- ---- whole turns
 
 pub takes-follow : (r : Replica) (list : List (Delivery Msg)) → FollowsGreens r.held (take_all list (begin r)).replica.held
-takes-follow r list = of-deliveries (λ t. FollowsGreens r.held t.replica.held) (λ a. Unit {0}) (follows-rule r.held) (begin r) list (anything list) (follows-first r.held)
+takes-follow r list = of-deliveries (λ t. FollowsGreens r.held t.replica.held) (λ a. Unit {0}) (follows-rule r.held) (begin r) list (any-deliveries list) (follows-first r.held)
 
 pub creates-same : (list : List Kind) (t : Turn) → SameMembers t.replica.held (fold create t list).replica.held
 unfolding create

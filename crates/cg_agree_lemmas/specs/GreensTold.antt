@@ -20,7 +20,7 @@ use Rattle.cg_group.specs.declared.delivery.Delivery.TheVariants.{Regular as Reg
 use Rattle.cg_states.specs.ReplicaStep.{Input, Deliveries, Asks, replica_step, after_delivery, on_regular}
 use Rattle.cg_disk_records.specs.HeldLaws.{names-behind}
 use Rattle.cg_agree_lemmas.specs.TurnRows.{IsRule, of-deliveries}
-use Rattle.cg_agree_lemmas.specs.KeptEmpty.{anything}
+use Rattle.cg_model.specs.RowLaws.{any-deliveries}
 
 pub record IsNoted (old : Held) (t : Turn) : Type 0 where
   pub white : t.replica.held.queue.white ≡ old.queue.white
@@ -113,7 +113,7 @@ pub step-noted : (r : Replica) (input : Input) → IsNoted r.held (replica_step 
 unfolding replica_step
 step-noted r (Deliveries list) =
     let first : IsNoted r.held (begin r) = record { white = refl; greens = sym (append-nil (names_of r.held.queue.greens)) } in
-    settle-noted r.held (fold after_delivery (begin r) list) (of-deliveries (IsNoted r.held) (λ a. Unit {0}) (noted-rule r.held) (begin r) list (anything list) first)
+    settle-noted r.held (fold after_delivery (begin r) list) (of-deliveries (IsNoted r.held) (λ a. Unit {0}) (noted-rule r.held) (begin r) list (any-deliveries list) first)
 step-noted r (Asks kind) = request-noted r.held (begin r) kind (record { white = refl; greens = sym (append-nil (names_of r.held.queue.greens)) })
 
 -- ---- a new configuration makes nothing green

@@ -36,6 +36,7 @@ use Rattle.cg_agree_lemmas.specs.OneSteps.{OneStep, turns-step, hands-step, leav
 use Rattle.cg_agree_lemmas.specs.OrdersWorld.{OrdersAt, step-is, conf-is, now}
 use Rattle.cg_agree_lemmas.specs.Reach.{reaches, passes}
 use Rattle.cg_agree_lemmas.specs.SmallTalk.{receive-is}
+use Rattle.cg_model.specs.Played.{with_world}
 
 -- a step in which a replica stands as before
 same-sound : (c d : Chronicle) (p : ℕ) → OneStep c d p (phase_of c.world.group p) (delivered_to c.world.group p) (is_up c.world.group p) → GroupSound c → GroupSound d
@@ -165,20 +166,17 @@ alone-sound c d p is now which step old = ⊎_elim
     (λ e. let at = subst (λ x. OneStep c d p x 0 is) e step in sound-one c d p Down 0 is at tt (λ k out. absurd (let clash : false ≡ true = out in cc)) old) which
 
 -- a chronicle with another world
-abbrev pub in_world : Chronicle → World → Chronicle
-in_world c w = record c { world = w }
-
-pub begins-step : (c : Chronicle) (set : List Weighted) (w : World) (p : ℕ) → OneStep (in_world c w) (in_world c (begin_replica set w p)) p Alone 0 true
+pub begins-step : (c : Chronicle) (set : List Weighted) (w : World) (p : ℕ) → OneStep (with_world c w) (with_world c (begin_replica set w p)) p Alone 0 true
 begins-step c set w p = record {
   stands = stands-up w.group p;
   runs = λ q. runs-set w p (Up (fresh p set) (new_disk (fresh p set).held)) q;
   begun = λ q was. begun-more w p (Up (fresh p set) (new_disk (fresh p set).held)) q was;
 }
 
-begun-sound : (c : Chronicle) (set : List Weighted) (replicas : List ℕ) (w : World) → GroupSound (in_world c w) → GroupSound (in_world c (fold (begin_replica set) w replicas))
+begun-sound : (c : Chronicle) (set : List Weighted) (replicas : List ℕ) (w : World) → GroupSound (with_world c w) → GroupSound (with_world c (fold (begin_replica set) w replicas))
 begun-sound c set [] w old = old
 begun-sound c set (p ∷ replicas) w old =
-    begun-sound c set replicas (begin_replica set w p) (alone-sound (in_world c w) (in_world c (begin_replica set w p)) p true Alone (inl refl) (begins-step c set w p) old)
+    begun-sound c set replicas (begin_replica set w p) (alone-sound (with_world c w) (with_world c (begin_replica set w p)) p true Alone (inl refl) (begins-step c set w p) old)
 
 -- two chronicles of one world
 same-world : (c d : Chronicle) → d.world ≡ c.world → GroupSound c → GroupSound d
@@ -206,7 +204,7 @@ pub group-kept : (c : Chronicle) (s : Small) → Hosted c → may_make c s ≡ t
 unfolding small_step may_make
 group-kept c (Starts set) nodes m old =
     let begun = begun-sound c set (ids set) c.world old in
-    same-world (in_world c (fold (begin_replica set) c.world (ids set))) (small_step c (Starts set)) refl begun
+    same-world (with_world c (fold (begin_replica set) c.world (ids set))) (small_step c (Starts set)) refl begun
 group-kept c (Makes set) nodes m old = sound-made c (small_step c (Makes set)) set refl (λ q. refl) old
 group-kept c (Enters p) nodes m old = enters-sound c p m old
 group-kept c (Orders p) nodes m old = orders-sound c p m old

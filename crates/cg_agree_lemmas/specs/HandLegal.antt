@@ -33,8 +33,9 @@ use Rattle.cg_model.specs.Talk.{Talk, hears, is_full, is_through, is_ended, is_d
 use Rattle.cg_agree_lemmas.specs.TalkEarly.{all-member}
 use Rattle.cg_agree_lemmas.specs.TalkCommute.{wanted-one}
 use Rattle.cg_agree_lemmas.specs.DueAll.{begins, none-begins, get-drop, next-drop}
-use Rattle.cg_agree_lemmas.specs.HandSays.{messages, part_messages, cpc_at_end, has_part, sent-go_on, remains-unless_gone}
+use Rattle.cg_agree_lemmas.specs.HandSays.{messages, part_messages, cpc_at_end, sent-go_on, remains-unless_gone}
 use Rattle.cg_agree_lemmas.specs.SaidSoFar.{kind_of, IsSame, NoneElse, rest-same, rest-through, rest-lacks}
+use Rattle.cg_model.specs.Total.{keeps_part}
 
 module _ (set : List ℕ) (conf me : ℕ) where
   due-there : (z : Talk) (item : Item) → is_full set z ≡ true → slice_get (items_of_plan (plan_of z.heard)) z.accepted ≡ Some (plan_sent me item) → is_due set z me item ≡ true
@@ -96,7 +97,7 @@ module _ (set : List ℕ) (conf me : ℕ) where
   module _ (t : Talk) (full : is_full set t ≡ true) (member : has set me ≡ true) (quiet : t.announced ≡ []) (rest : List (Sent Msg))
       (legal : is_legal set conf t rest ≡ true) (no_cpc : kind_of announcer_in me rest ≡ [])
       (no_items : (part : Part) → turn_of (plan_of t.heard) me t.accepted ≡ Some part → kind_of item_in me rest ≡ [])
-      (u : Turn) (id : u.replica.held.id ≡ me) (none : u.sent ≡ []) (holds : has_part u.replica.held.queue (turn_of (plan_of t.heard) me t.accepted) ≡ true) where
+      (u : Turn) (id : u.replica.held.id ≡ me) (none : u.sent ≡ []) (holds : keeps_part u.replica.held.queue (turn_of (plan_of t.heard) me t.accepted) ≡ true) where
     abbrev z : Talk
     z = fold hears t rest
 
@@ -127,7 +128,7 @@ module _ (set : List ℕ) (conf me : ℕ) where
               (not_from_false (has z.announced me) lacks)
 
     -- a part that begins
-    legal-part : (o : Option Part) → turn_of (plan_of t.heard) me t.accepted ≡ o → has_part u.replica.held.queue o ≡ true →
+    legal-part : (o : Option Part) → turn_of (plan_of t.heard) me t.accepted ≡ o → keeps_part u.replica.held.queue o ≡ true →
         is_legal set conf z (map (sent_by me) (part_messages u.replica.held.queue o)) ≡ true
     legal-part None e all = refl
     legal-part (Some part) e all =

@@ -28,10 +28,10 @@ use Rattle.cg_agree_lemmas.specs.TalkEarly.{early-legal, early-none, not_full, d
 use Rattle.cg_agree_lemmas.specs.TalkCommute.{legal-append, tells}
 use Rattle.cg_agree_lemmas.specs.DueAll.{items_by, due-all}
 use Rattle.cg_agree_lemmas.specs.HandState.{kept-mark_red}
-use Rattle.cg_agree_lemmas.specs.HandSays.{has_part}
 use Rattle.cg_agree_lemmas.specs.HandTalk.{sent-summary, sent-green, sent-red, sent-cpc, sent-act, sent-mark_red, sent-mark_green_at, id-mark_green_at, id-take_item, sent-mark_item}
 use Rattle.cg_agree_lemmas.specs.SaidSoFar.{kind_of, part_of, kind-cons, nobodys, nil-both, placed-append, items_so_far, so_far-legal}
 use Rattle.cg_agree_lemmas.specs.HandLegal.{go_on-legal}
+use Rattle.cg_model.specs.Total.{keeps_part}
 
 pub nil-behind : {Y : Type 0} (xs ys : List Y) → xs ++ ys ≡ xs → ys ≡ []
 nil-behind [] ys e = e
@@ -124,7 +124,7 @@ module _ (set : List ℕ) (conf me : ℕ) (handed : List (Sent Msg)) (from : ℕ
   -- behind one more message the plan goes on
   may-go_on : (told : Option Told) (tr u : Turn) → IsHanded told tr → is_full set after ≡ true → is_ended set before ≡ false → after.announced ≡ before.announced →
       ((part : Part) → turn_of (plan_of after.heard) me after.accepted ≡ Some part → kind_of item_in me rest ≡ []) →
-      u.replica.held.id ≡ me → u.sent ≡ [] → has_part u.replica.held.queue (turn_of (plan_of after.heard) me after.accepted) ≡ true →
+      u.replica.held.id ≡ me → u.sent ≡ [] → keeps_part u.replica.held.queue (turn_of (plan_of after.heard) me after.accepted) ≡ true →
       MaySay (go_on u conf after.heard after.accepted).sent
   may-go_on told tr u h full yet announced no_items id none holds =
       let parts = legal-parts h.legal in
@@ -137,10 +137,10 @@ module _ (set : List ℕ) (conf me : ℕ) (handed : List (Sent Msg)) (from : ℕ
 
 -- what has to be there to be said: the actions of a part that begins behind a summary, and behind an item
 abbrev pub HasFirst : Turn → Talk → ℕ → Type 0
-HasFirst tr t me = has_part tr.replica.held.queue (turn_of (plan_of t.heard) me 0) ≡ true
+HasFirst tr t me = keeps_part tr.replica.held.queue (turn_of (plan_of t.heard) me 0) ≡ true
 
 abbrev pub HasNext : Turn → Talk → ℕ → Msg → Type 0
-HasNext tr t me m = has_part (take_item tr t.heard m).replica.held.queue (turn_of (plan_of t.heard) me (suc t.accepted)) ≡ true
+HasNext tr t me m = keeps_part (take_item tr t.heard m).replica.held.queue (turn_of (plan_of t.heard) me (suc t.accepted)) ≡ true
 
 module _ (set : List ℕ) (conf me : ℕ) (handed : List (Sent Msg)) (from : ℕ) (rest : List (Sent Msg)) (told : Option Told) (tr : Turn) where
   abbrev before_it : Talk

@@ -36,6 +36,7 @@ use Rattle.cg_model.specs.FactsTalk.{SaysWhatIsDue, summaries_of}
 use Rattle.cg_group.specs.LookupLaws.{at-cond}
 use Rattle.cg_agree_lemmas.specs.TalkEarly.{all-member}
 use Rattle.cg_agree_lemmas.specs.DueItems.{part_items}
+use Rattle.cg_model.specs.Total.{keeps_part}
 
 -- ---- what the end of a plan says
 
@@ -92,10 +93,6 @@ abbrev pub messages : QueueView → List Item → List Msg
 messages q items = flat_map (λ item. option_to_list (message_of q item)) items
 
 -- the replica has the actions of a part
-abbrev pub has_part : QueueView → Option Part → Bool
-has_part q None = true
-has_part q (Some part) = list_all (λ item. is_some (message_of q item)) (items_of part)
-
 pub record OnlyItems (list : List Msg) : Type 0 where
   pub summary : filter_map summary_in list ≡ []
   pub announcement : filter_map announcer_in list ≡ []
@@ -141,7 +138,7 @@ items-said q (Red id ∷ items) all =
     red-item id (action_of q id) (messages q items) items
     (λ a found. same_item-is (Red a.id) (Red id) (found_passes (λ a. same_id a.id id) (q.greens ++ q.reds) a found)) parts.0 (items-said q items parts.1)
 
-part-said : (q : QueueView) (o : Option Part) → has_part q o ≡ true → filter_map item_in (part_messages q o) ≡ part_items o
+part-said : (q : QueueView) (o : Option Part) → keeps_part q o ≡ true → filter_map item_in (part_messages q o) ≡ part_items o
 part-said q None all = refl
 part-said q (Some part) all = items-said q (items_of part) all
 
@@ -187,7 +184,7 @@ module _ (set : List ℕ) (conf me : ℕ) (t : Talk) (said : List Msg) (told : O
   said-three id none = ap (λ xs. said ++ xs) (sent-go_on u conf t.heard t.accepted ∙ rw (none, id) refl)
 
   -- where all have told: with what is said as the plan goes on, a member has said what is due
-  pub says-go_on : is_full set t ≡ true → has set me ≡ true → u.replica.held.id ≡ me → u.sent ≡ [] → has_part u.replica.held.queue next_part ≡ true →
+  pub says-go_on : is_full set t ≡ true → has set me ≡ true → u.replica.held.id ≡ me → u.sent ≡ [] → keeps_part u.replica.held.queue next_part ≡ true →
       filter_map summary_in said ≡ summaries_of told → due_items set t me ≡ filter_map item_in said ++ part_items next_part →
       filter_map announcer_in said ≡ [] → filter_map act_in said ≡ [] →
       SaysWhatIsDue set conf me (said ++ (go_on u conf t.heard t.accepted).sent) t told

@@ -33,8 +33,9 @@ use Rattle.cg_group.specs.LookupLaws.{at-cond}
 use Rattle.cg_agree_lemmas.specs.TalkEarly.{IsEarly, not_full, due_parts}
 use Rattle.cg_agree_lemmas.specs.TalkCommute.{tells, announces, acts}
 use Rattle.cg_agree_lemmas.specs.DueItems.{part_items, due-step, due-first}
-use Rattle.cg_agree_lemmas.specs.HandSays.{has_part, says-go_on}
+use Rattle.cg_agree_lemmas.specs.HandSays.{says-go_on}
 use Rattle.cg_agree_lemmas.specs.HandState.{kept-mark_red, kept-mark_green}
+use Rattle.cg_model.specs.Total.{keeps_part}
 
 -- ---- marks say nothing
 
@@ -192,7 +193,7 @@ module _ (set : List ℕ) (conf me : ℕ) (t : Talk) (early : IsEarly set t) (me
   due-at_first u full zeroth = rw (full, zeroth) (due-first (plan_of u.heard) me (plan-filled u.heard))
 
   pub says-summary : (from : ℕ) (s : Summary) → may_say set conf t from (StateMsg s) ≡ true →
-      (is_full set (hears_from t from (StateMsg s)) ≡ true → has_part tr.replica.held.queue (turn_of (plan_of (t.heard ++ s ∷ [])) me 0) ≡ true) →
+      (is_full set (hears_from t from (StateMsg s)) ≡ true → keeps_part tr.replica.held.queue (turn_of (plan_of (t.heard ++ s ∷ [])) me 0) ≡ true) →
       SaysWhatIsDue set conf me (said ++ (on_message (state_in set conf t me) from (StateMsg s) tr).sent) (hears_from t from (StateMsg s)) told
   unfolding on_message
   says-summary from s may holds =
@@ -221,7 +222,7 @@ module _ (set : List ℕ) (conf me : ℕ) (t : Talk) (early : IsEarly set t) (me
       (cases_Bool (is_full set u))
 
   says-item : (from : ℕ) (m : Msg) (item : Item) (u : Turn) → is_due set t from item ≡ true → u.replica.held.id ≡ me → u.sent ≡ [] →
-      has_part u.replica.held.queue (turn_of (plan_of t.heard) me (suc t.accepted)) ≡ true →
+      keeps_part u.replica.held.queue (turn_of (plan_of t.heard) me (suc t.accepted)) ≡ true →
       SaysWhatIsDue set conf me (said ++ (go_on u conf t.heard (suc t.accepted)).sent) (record t { accepted = suc t.accepted }) told
   says-item from m item u due id' none' holds =
       let parts = due_parts set t from item due in
@@ -266,7 +267,7 @@ module _ (set : List ℕ) (conf me : ℕ) (t : Talk) (early : IsEarly set t) (me
       says-quiet t.announced (t.acts ++ a ∷ []) (on_message (state_in set conf t me) from (ActionMsg a) tr).sent (sent-act set conf me t tr none from a may) on.full on.through (λ yet. yet)
 
   abbrev HasNext : Msg → Type 0
-  HasNext m = has_part (take_item tr t.heard m).replica.held.queue (turn_of (plan_of t.heard) me (suc t.accepted)) ≡ true
+  HasNext m = keeps_part (take_item tr t.heard m).replica.held.queue (turn_of (plan_of t.heard) me (suc t.accepted)) ≡ true
 
   pub says-green : (from at : ℕ) (a : Action) → may_say set conf t from (GreenItem at a) ≡ true → HasNext (GreenItem at a) →
       SaysWhatIsDue set conf me (said ++ (on_message (state_in set conf t me) from (GreenItem at a) tr).sent) (hears_from t from (GreenItem at a)) told

@@ -15,7 +15,7 @@ use Rattle.cg_wire.specs.declared.message.Msg.{Msg}
 use Rattle.cg_group.specs.declared.phase.Phase.{Phase}
 use Rattle.cg_group.specs.declared.phase.Phase.TheVariants.{Down, Alone, Regular, Transitional}
 use Rattle.cg_group.specs.Ready.{ready, ready_in, all_received}
-use Rattle.cg_group.specs.State.{Sent, Standing, GroupState, standing_of, phase_of, is_regular, is_up, regular_in, delivered_to, configuration}
+use Rattle.cg_group.specs.State.{Sent, phase_of, is_regular, regular_in, delivered_to, configuration}
 use Rattle.cg_client.specs.Replica.{Held, State, RegPrim, Construct, Replica}
 use Rattle.cg_client.specs.Turn.{begin}
 use Rattle.cg_states.specs.Construct.{attempt_set}
@@ -33,6 +33,7 @@ use Rattle.cg_model.specs.Smalls.{may_make}
 use Rattle.cg_agree_lemmas.specs.TalkCommute.{legal-append}
 use Rattle.cg_agree_lemmas.specs.SaidSoFar.{rest-through}
 use Rattle.cg_agree_lemmas.specs.HandsTalk.{HasAnswer, SaidFacts, hands-said}
+use Rattle.cg_group.specs.RefusalLaws.{regular-up}
 
 -- the member has what it is to send behind the place that is handed
 abbrev pub CanAnswer : Chronicle → ℕ → Type 0
@@ -50,12 +51,6 @@ regular-phase Down e = absurd (let no : false ≡ true = e in cc)
 regular-phase Alone e = absurd (let no : false ≡ true = e in cc)
 regular-phase (Regular conf) e = record { at = conf; is = refl; number = not-true (conf == 0) e }
 regular-phase (Transitional conf set) e = absurd (let no : false ≡ true = e in cc)
-
-pub regular-up : (g : GroupState Msg) (p : ℕ) → is_regular g p ≡ true → is_up g p ≡ true
-regular-up g p regular = at (standing_of g p) regular where
-  at : (o : Option (Standing Msg)) → not (regular_in (option_map_or (λ s. s.phase) o Down) == 0) ≡ true → is_some o ≡ true
-  at None e = absurd (let no : false ≡ true = e in cc)
-  at (Some s) e = refl
 
 pub record Sits (w : World) (p : ℕ) : Type 0 where
   pub replica : Replica

@@ -27,12 +27,13 @@ use Rattle.cg_model.specs.Facts.{Invariant}
 use Rattle.cg_model.specs.Small.{Hands, take_all, take_next}
 use Rattle.cg_model.specs.Smalls.{may_make}
 use Rattle.cg_agree_lemmas.specs.HandNext.{take-next, talk-append, state-handed}
-use Rattle.cg_agree_lemmas.specs.HandsKept.{regular-phase, regular-up, hosted, some-at, next-there, take-drop, attempt-named}
+use Rattle.cg_agree_lemmas.specs.HandsKept.{regular-phase, hosted, some-at, next-there, take-drop, attempt-named}
 use Rattle.cg_agree_lemmas.specs.HandsTalk.{SaidFacts}
 use Rattle.cg_agree_lemmas.specs.SaidSoFar.{rest-through}
 use Rattle.cg_agree_lemmas.specs.TalkCommute.{legal-append}
 use Rattle.cg_agree_lemmas.specs.TurnKinds.{Turned, Quiet}
 use Rattle.cg_agree_lemmas.specs.TurnParts.{NextTurned, Nothing, Something, next-turned}
+use Rattle.cg_group.specs.RefusalLaws.{regular-up}
 
 pub said-of : (c : Chronicle) → Invariant c → SaidFacts c
 said-of c i = record { legal = i.talk.talk_legal; says = i.talk.sent_iff_due; told = i.talk.heard_is_told; modes = i.talk.mode_fits }

@@ -1,6 +1,6 @@
 -- What an installation makes green, by the last announcement or in a parting: all that the replica had as valid yellow, and then the
 -- other reds.
-use Rattle.std.proofs.Common.{◌≡◌, ℕ, Bool, true, false, cond, not, List, [], ◌∷◌, ◌++◌, Option, Some, None, drop, length, nat_le, nat_lt, refl, sym, ap, ◌∙◌, subst}
+use Rattle.std.proofs.Common.{◌≡◌, ℕ, true, false, cond, not, List, [], ◌∷◌, ◌++◌, Option, Some, None, drop, length, nat_le, nat_lt, refl, sym, ap, ◌∙◌, subst}
 use Rattle.std.specs.Prelude.{◌==◌, ◌&&◌, suc}
 use Rattle.std.specs.Option.{option_map_or}
 use Rattle.std.proofs.lemmas.Bool.{cond_both}
@@ -32,6 +32,7 @@ use Rattle.cg_agree_lemmas.specs.HeldAll.{installed_by}
 use Rattle.cg_agree_lemmas.specs.HeldMessages.{installed-all}
 use Rattle.cg_agree_lemmas.specs.TurnValues.{even-mark_yellow}
 use Rattle.cg_agree_lemmas.specs.ActsWay.{drop-behind}
+use Rattle.cg_agree_lemmas.specs.Looking.{is_waiting}
 
 -- a yellow mark leaves the greens
 pub yellow-greens : (t : Turn) (a : Action) → (mark_yellow t a).replica.held.queue.greens ≡ t.replica.held.queue.greens
@@ -78,11 +79,6 @@ by-announcement start all r is conf heard at from (Cpc id of_conf) primary = con
       more = with_member heard from
 
 -- ---- in a parting
-
-abbrev is_waiting : State → Bool
-is_waiting (No conf heard) = true
-is_waiting Un = true
-is_waiting _ = false
 
 -- the replica waits with what it held, or has installed its attempt
 data Parting (r u : Replica) : Type 0 where

@@ -1,43 +1,24 @@
 -- Who creates keeps no request behind an event, and who has left keeps none; and what is held goes on through a replica's whole step.
 use Rattle.std.proofs.Common.{◌≡◌, Bool, true, false, cond, List, [], ◌∷◌, ◌++◌, fold, refl, sym, ap, ◌∙◌, subst}
-use Rattle.cg_base.specs.Lists.{Each}
 use Rattle.cg_base.specs.EachLaws.{Each-all}
 use Rattle.cg_action.specs.declared.action.Action.{Action}
 use Rattle.cg_action.specs.declared.action.Kind.{Kind}
 use Rattle.cg_queue.specs.Queue.{Marking, Marks, Gaps, marked_red}
 use Rattle.cg_queue.specs.declared.mark.Mark.TheVariants.{Placed, Known}
-use Rattle.cg_wire.specs.declared.message.Msg.{Msg}
-use Rattle.cg_group.specs.declared.delivery.Delivery.{Delivery}
-use Rattle.cg_group.specs.declared.delivery.Delivery.TheVariants.{Message, Transitional as TransitionalIn, Regular as RegularIn}
-use Rattle.cg_wire.specs.declared.message.Msg.TheVariants.{Action as ActionMsg, State as StateMsg, GreenItem, RedItem, Cpc}
 use Rattle.cg_client.specs.Replica.{Held, State, RegPrim, TransPrim, ExchangeStates, ExchangeActions, Construct, No, Un, NonPrim, Left, Replica}
 use Rattle.cg_client.specs.Turn.{Turn, begin}
 use Rattle.cg_client.specs.Marks.{marked, place_green}
 use Rattle.cg_client.specs.Requests.{is_creating, next_action, create, create_kept, empty_buffer, buffer, settle, request_in, request}
 use Rattle.cg_client.specs.Summary.{redden, forget_own, own_to_red}
-use Rattle.cg_model.specs.Recorded.{OfMessage, OfDelivery}
 use Rattle.cg_states.specs.ReplicaStep.{Input, Deliveries, Asks, replica_step, after_delivery}
 use Rattle.cg_model.specs.World.{is_left_state}
 use Rattle.cg_model.specs.FactsReplica.{IsEmptyIn}
 use Rattle.cg_agree_lemmas.specs.TurnValues.{even-own_to_red}
 use Rattle.cg_agree_lemmas.specs.TurnRows.{IsRule, of-deliveries}
 use Rattle.cg_agree_lemmas.specs.DiskAhead.{IsUnnoted, IsFurther, OwnRuns, StaysBehind, further-refl, nil-more, stays-rule}
+use Rattle.cg_model.specs.RowLaws.{any-deliveries}
 
 -- any action may come
-pub anything : (list : List (Delivery Msg)) → Each (OfDelivery (λ a. Unit {0})) list
-anything list = Each-all (OfDelivery (λ a. Unit {0})) each list where
-  of_message : (m : Msg) → OfMessage (λ a. Unit {0}) m
-  of_message (ActionMsg a) = tt
-  of_message (StateMsg s) = tt
-  of_message (GreenItem at a) = tt
-  of_message (RedItem a) = tt
-  of_message (Cpc id conf) = tt
-
-  each : (d : Delivery Msg) → OfDelivery (λ a. Unit {0}) d
-  each (Message place from m) = of_message m
-  each (TransitionalIn conf set) = tt
-  each (RegularIn conf set) = tt
-
 -- ---- who has left
 
 abbrev IsLeftEmpty : Turn → Type 0
@@ -150,7 +131,7 @@ asked-empty r kind is = at r.state refl is where
 pub step-empty : (r : Replica) (input : Input) → IsEmptyIn r.held r.state → IsEmptyIn (replica_step r input).replica.held (replica_step r input).replica.state
 unfolding replica_step
 step-empty r (Deliveries list) is =
-    settled-empty (fold after_delivery (begin r) list) (of-deliveries IsLeftEmpty (λ a. Unit {0}) left-rule (begin r) list (anything list) (left-empty r.held r.state is))
+    settled-empty (fold after_delivery (begin r) list) (of-deliveries IsLeftEmpty (λ a. Unit {0}) left-rule (begin r) list (any-deliveries list) (left-empty r.held r.state is))
 step-empty r (Asks kind) is = asked-empty r kind is
 
 -- ---- what is held goes on
@@ -179,7 +160,7 @@ kept-behind old t p u = at t.replica.held.buffered u where
 pub step-behind : (r : Replica) (input : Input) → OwnRuns r.held → StaysBehind r.held (replica_step r input)
 unfolding replica_step create
 step-behind r (Deliveries list) own = settled (fold after_delivery (begin r) list)
-    (of-deliveries (StaysBehind r.held) (λ a. Unit {0}) (stays-rule r.held) (begin r) list (anything list) (λ u. (further-refl r.held, own)))
+    (of-deliveries (StaysBehind r.held) (λ a. Unit {0}) (stays-rule r.held) (begin r) list (any-deliveries list) (λ u. (further-refl r.held, own)))
   where
     settled : (t : Turn) → StaysBehind r.held t → StaysBehind r.held (settle t)
     settled t p = at (is_creating t.replica.state) where

@@ -20,8 +20,9 @@ use Rattle.cg_model.specs.Chronicle.{Told}
 use Rattle.cg_model.specs.FactsExchange.{HasMadeNothing, KnowsAsMuch}
 use Rattle.cg_agree_lemmas.specs.TurnValues.{even-mark_red, even-mark_yellow, even-mark_green, even-create_kept, even-create}
 use Rattle.cg_agree_lemmas.specs.TurnRows.{of-deliveries}
-use Rattle.cg_agree_lemmas.specs.KeptEmpty.{anything}
 use Rattle.cg_agree_lemmas.specs.CreatedKept.{HasCreated, StaysCreated, created-rule}
+use Rattle.cg_base.specs.BoolLaws.{impossible}
+use Rattle.cg_model.specs.RowLaws.{any-deliveries}
 
 -- states in which something may have been created
 abbrev pub is_free : State → Bool
@@ -34,9 +35,6 @@ is_free _ = false
 
 free-at : (u : Turn) (state : State) → u.replica.state ≡ state → is_free state ≡ true → is_free u.replica.state ≡ true
 free-at u state e is = ap is_free e ∙ is
-
-never : {A : Type 0} → false ≡ true → A
-never e = absurd (let clash : false ≡ true = e in cc)
 
 free-message : (state : State) (from : ℕ) (m : Msg) (t : Turn) → t.replica.state ≡ state → is_free state ≡ true → is_free (on_message state from m t).replica.state ≡ true
 unfolding on_message
@@ -55,24 +53,24 @@ free-message (NonPrim regular) from (StateMsg s) t e is = free-at t (NonPrim reg
 free-message (NonPrim regular) from (GreenItem at a) t e is = free-at t (NonPrim regular) e refl
 free-message (NonPrim regular) from (RedItem a) t e is = free-at t (NonPrim regular) e refl
 free-message (NonPrim regular) from (Cpc id conf) t e is = free-at t (NonPrim regular) e refl
-free-message (ExchangeStates at set heard) from m t e is = never is
-free-message (ExchangeActions at summaries accepted) from m t e is = never is
-free-message (Construct at heard) from m t e is = never is
-free-message (No at heard) from m t e is = never is
-free-message Un from m t e is = never is
-free-message Left from m t e is = never is
+free-message (ExchangeStates at set heard) from m t e is = impossible is
+free-message (ExchangeActions at summaries accepted) from m t e is = impossible is
+free-message (Construct at heard) from m t e is = impossible is
+free-message (No at heard) from m t e is = impossible is
+free-message Un from m t e is = impossible is
+free-message Left from m t e is = impossible is
 
 free-transitional : (state : State) (t : Turn) → t.replica.state ≡ state → is_free state ≡ true → is_free (on_transitional state t).replica.state ≡ true
 unfolding on_transitional
 free-transitional RegPrim t e is = refl
 free-transitional TransPrim t e is = free-at t TransPrim e refl
 free-transitional (NonPrim regular) t e is = refl
-free-transitional (ExchangeStates at set heard) t e is = never is
-free-transitional (ExchangeActions at summaries accepted) t e is = never is
-free-transitional (Construct at heard) t e is = never is
-free-transitional (No at heard) t e is = never is
-free-transitional Un t e is = never is
-free-transitional Left t e is = never is
+free-transitional (ExchangeStates at set heard) t e is = impossible is
+free-transitional (ExchangeActions at summaries accepted) t e is = impossible is
+free-transitional (Construct at heard) t e is = impossible is
+free-transitional (No at heard) t e is = impossible is
+free-transitional Un t e is = impossible is
+free-transitional Left t e is = impossible is
 
 -- no configuration comes
 abbrev pub IsInside : Delivery Msg → Type 0
@@ -134,7 +132,7 @@ knows-on t old new on is = record {
 -- what is handed
 pub takes-knowing : (r : Replica) (list : List (Delivery Msg)) → HasCreated r.held r.held → Each IsInside list → GoesOnKnowing r (fold after_delivery (begin r) list).replica
 takes-knowing r list first inside =
-    let now = of-deliveries (StaysCreated r.held) (λ a. Unit {0}) (created-rule r.held) (begin r) list (anything list) (record { held = first; made = refl }) in
+    let now = of-deliveries (StaysCreated r.held) (λ a. Unit {0}) (created-rule r.held) (begin r) list (any-deliveries list) (record { held = first; made = refl }) in
     record { red = now.held.red; free = λ e. free-list list (begin r) inside e; made = λ e. now.held.created }
 
 -- requests: where something is created it may have been before
@@ -147,12 +145,12 @@ creating-free : (state : State) → is_creating state ≡ true → is_free state
 creating-free RegPrim e = refl
 creating-free (NonPrim regular) e = refl
 creating-free TransPrim e = refl
-creating-free (ExchangeStates at set heard) e = never e
-creating-free (ExchangeActions at summaries accepted) e = never e
-creating-free (Construct at heard) e = never e
-creating-free (No at heard) e = never e
-creating-free Un e = never e
-creating-free Left e = never e
+creating-free (ExchangeStates at set heard) e = impossible e
+creating-free (ExchangeActions at summaries accepted) e = impossible e
+creating-free (Construct at heard) e = impossible e
+creating-free (No at heard) e = impossible e
+creating-free Un e = impossible e
+creating-free Left e = impossible e
 
 -- something is created in a state in which it may be
 creates : (r : Replica) (u : Turn) → is_creating r.state ≡ true → u.replica.state ≡ r.state → u.replica.held.queue ≡ r.held.queue → GoesOnKnowing r u.replica

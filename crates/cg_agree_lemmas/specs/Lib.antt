@@ -195,3 +195,4 @@ pub mod TouchedNodes
 pub mod TurnAlong
 pub mod GreensBehind
 pub mod EventRuns
+pub mod Looking

@@ -16,7 +16,7 @@ use Rattle.cg_model.specs.Fronts.{Front}
 use Rattle.cg_model.specs.FactsReplica.{joins, join_from}
 use Rattle.cg_agree_lemmas.specs.EverServer.{ever-green}
 use Rattle.cg_agree_lemmas.specs.LinesTold.{line-with}
-use Rattle.cg_members.specs.MemberLaws.{is_among-with_line}
+use Rattle.cg_members.specs.MemberLaws.{is_among-with_line, line_of-raised}
 
 -- ---- lines in a list of servers
 
@@ -29,18 +29,6 @@ line-raised-other (s ∷ servers) p line q apart =
     (λ z. absurd (apart (sym (eqb-true s.id p y) ∙ eqb-true s.id q z)))
     (λ z. line-raised-other servers p line q apart ∙ sym (cond-false (s.id == q) s.line (line_of servers q) z)))
     (λ n. ap (cond (s.id == q) s.line) (line-raised-other servers p line q apart))
-
-line-raised-up : (servers : List Server) (p line q : ℕ) → line_of servers q ≤ line_of (map (with_line p line) servers) q
-line-raised-up [] p line q = omega arith
-line-raised-up (s ∷ servers) p line q =
-    let new : Server = record s { line = max s.line line } in
-    let rest = line-raised-up servers p line q in
-    cond_both (s.id == p) new s (λ x. line_of (s ∷ servers) q ≤ line_of (x ∷ map (with_line p line) servers) q)
-    (λ y. two (s.id == q) s.line (max s.line line) (line_of servers q) (line_of (map (with_line p line) servers) q) (omega arith) rest)
-    (λ n. two (s.id == q) s.line s.line (line_of servers q) (line_of (map (with_line p line) servers) q) (omega arith) rest) where
-      two : (b : Bool) (x y z w : ℕ) → x ≤ y → z ≤ w → cond b x z ≤ cond b y w
-      two true x y z w a c = a
-      two false x y z w a c = c
 
 line-without-other : (servers : List Server) (p q : ℕ) → (p ≡ q → ⊥) → line_of (without_server servers p) q ≡ line_of servers q
 line-without-other [] p q apart = refl
@@ -251,5 +239,5 @@ lines-above (a ∷ greens) m base w le above q is =
     lines-above greens (after_green m (suc base) a) (suc base) w (omega arith)
     (λ p there.
     let low = above-kind m base w a.kind le above p (sym (is_among-with_line behind.servers a.id.creator (min a.green_line (suc base)) p) ∙ there) in
-    let up = line-raised-up behind.servers a.id.creator (min a.green_line (suc base)) p in
+    let up = line_of-raised behind.servers a.id.creator (min a.green_line (suc base)) p in
     omega arith) q is

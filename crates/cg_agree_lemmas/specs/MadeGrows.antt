@@ -19,8 +19,8 @@ use Rattle.cg_disk_records.specs.HeldLaws.{names-behind, created-behind}
 use Rattle.cg_agree_lemmas.specs.DiskAhead.{OwnRuns}
 use Rattle.cg_agree_lemmas.specs.CreatedKept.{StaysCreated, created-rule, created-first}
 use Rattle.cg_agree_lemmas.specs.TurnRows.{of-deliveries}
-use Rattle.cg_agree_lemmas.specs.KeptEmpty.{anything}
 use Rattle.cg_disk_records.specs.HoldsValueLaws.{mine-behind}
+use Rattle.cg_model.specs.RowLaws.{any-deliveries}
 
 -- a cut, with what was made in the turn, counts what the replica has created; others' counts stay; and own greens are no more than
 -- what it had created
@@ -130,6 +130,6 @@ unfolding replica_step
 step-shown cut start r all (Deliveries list) rising is counts =
     let t = fold after_delivery (begin r) list in
     settle-shown cut rising r.held t (stays-shown cut rising r.held counts t
-    (of-deliveries (StaysCreated r.held) (λ a. Unit {0}) (created-rule r.held) (begin r) list (anything list) (record { held = created-first start r.held all is; made = refl })))
+    (of-deliveries (StaysCreated r.held) (λ a. Unit {0}) (created-rule r.held) (begin r) list (any-deliveries list) (record { held = created-first start r.held all is; made = refl })))
 step-shown cut start r all (Asks kind) rising is counts =
     request-shown cut rising r.held (begin r) kind (stays-shown cut rising r.held counts (begin r) (record { held = created-first start r.held all is; made = refl }))

@@ -32,6 +32,7 @@ use Rattle.cg_agree_lemmas.specs.MadeGrows.{IsShown, step-shown}
 use Rattle.cg_agree_lemmas.specs.MadeRecovered.{recovery-shown}
 use Rattle.cg_agree_lemmas.specs.DiskSwaps.{Swaps}
 use Rattle.cg_disk_records.specs.CutRaiseLaws.{rising-behind}
+use Rattle.cg_disk_records.specs.HeldLaws.{whitened-created}
 
 -- what a replica holds is what some greens make of it
 pub record IsCoreAt (start : List Weighted) (p : ℕ) (h : Held) : Type 0 where
@@ -69,10 +70,6 @@ fits-set w v p life nodes rising is others fits = record { rising = rising; node
   ]
 
 -- ---- a turn
-
-whitened-created : (h : Held) → created (whiten h) ≡ created h
-unfolding whiten
-whitened-created h = refl
 
 whitened-green : (h : Held) → (whiten h).queue.green_cut ≡ h.queue.green_cut
 unfolding whiten

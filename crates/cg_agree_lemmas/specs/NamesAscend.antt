@@ -5,7 +5,7 @@ use Rattle.std.proofs.lemmas.Bool.{cases_eq, cases_lt, cases_Bool, and_parts, an
 use Rattle.cg_base.specs.declared.action_id.ActionId.{ActionId}
 use Rattle.cg_base.specs.Cuts.{index_in}
 use Rattle.cg_base.specs.Ids.{same_id, id_before, has_name}
-use Rattle.cg_base.specs.IdLaws.{same_id-true, same_id-false, before-index, before-creator, same_id-self, same_id-is}
+use Rattle.cg_base.specs.IdLaws.{same_id-true, same_id-false, before-index, before-creator, same_id-self, same_id-is, has_name-append}
 use Rattle.cg_base.specs.Lists.{count_up, Each}
 use Rattle.cg_base.specs.Sets.{has}
 use Rattle.cg_base.specs.IdRuns.{names_above}
@@ -14,7 +14,6 @@ use Rattle.cg_base.specs.BoolLaws.{or_false}
 use Rattle.cg_model.specs.FactsLists.{IsRising}
 use Rattle.cg_disk_records.specs.Holds.{run_on, cut_behind, ascend, Rising}
 use Rattle.cg_disk_records.specs.RunMarkLaws.{run-names, before-parts, before-trans, ascend-less}
-use Rattle.cg_agree_lemmas.specs.EventSays.{names-both}
 
 -- ---- names in order
 
@@ -189,7 +188,7 @@ creators-names : (low high : ℕ → ℕ) (list : List ℕ) (from : ℕ) (id : A
     has_name (names_of_creators low high list) id ≡ (has list id.creator && (nat_lt (low id.creator) id.index && nat_le id.index (high id.creator)))
 creators-names low high [] from id rising = refl
 creators-names low high (creator ∷ list) from id rising =
-    names-both (names_above (low creator) (high creator) creator) (names_of_creators low high list) id ∙ ⊎_elim
+    has_name-append (names_above (low creator) (high creator) creator) (names_of_creators low high list) id ∙ ⊎_elim
     (λ (here : id.creator ≡ creator).
     let e : (creator == id.creator) ≡ true = eq-eqb creator id.creator (sym here) in
     let none : has_name (names_of_creators low high list) id ≡ false = creators-names low high list (suc creator) id rising.1 ∙ ap (λ b. b && (nat_lt (low id.creator) id.index && nat_le id.index (high id.creator))) (early list (suc creator) id.creator rising.1 (omega arith)) in

@@ -1,5 +1,5 @@
 -- Before the start there is nothing to tell: the empty chronicle stands beside the empty world.
-use Rattle.std.proofs.Common.{◌≡◌, ℕ, zero, suc, true, false, List, [], ◌++◌, length, filter_map, Option, Some, None, refl, sym, ap, ap₂, ◌∙◌, subst, arith}
+use Rattle.std.proofs.Common.{◌≡◌, ℕ, zero, suc, false, List, [], ◌++◌, length, filter_map, Option, Some, None, refl, sym, ap, ap₂, ◌∙◌, subst, arith}
 use Rattle.cg_base.specs.Sets.{has}
 use Rattle.cg_knowledge.specs.Summaries.{senders, remaining}
 use Rattle.cg_wire.specs.declared.message.Msg.{Msg}
@@ -16,6 +16,7 @@ use Rattle.cg_model.specs.FactsAttempts.{AttemptFacts}
 use Rattle.cg_model.specs.FactsGreens.{GreenFacts}
 use Rattle.cg_model.specs.Facts.{Invariant, Rests}
 use Rattle.cg_model.specs.Played.{StandsBeside, with_world}
+use Rattle.cg_base.specs.BoolLaws.{impossible}
 
 -- ---- no configuration is made
 
@@ -49,9 +50,6 @@ waits-none conf p = refl
 said-none : (conf p : ℕ) → said_in no_chronicle conf p ≡ []
 said-none conf p = ap₂ (λ (xs : List (Sent Msg)) ys. placed_of p xs ++ ys) (ordered-none conf) (waits-none conf p)
 
-never : {A : Type 0} → false ≡ true → A
-never e = absurd (let clash : false ≡ true = e in cc)
-
 -- ---- the facts
 
 net : NetFacts no_chronicle
@@ -61,18 +59,18 @@ net = record {
   phase_sound = record { phase = λ p. tt; up = λ p. refl };
   receipts_inside = record {
     places = λ conf. ap (λ (x : Configuration Msg). length x.received) (conf-none conf) ∙ sym (ap (λ (x : Configuration Msg). length x.ordered) (conf-none conf));
-    member = λ conf p place e. never (sym (unreceived conf p place) ∙ e);
+    member = λ conf p place e. impossible (sym (unreceived conf p place) ∙ e);
     sender = λ conf place some within. absurd (let none = ap length (ordered-none conf) in omega arith);
   };
-  sender_closed = λ conf p earlier place some before same e. never (sym (unreceived conf p place) ∙ e);
-  handed_received = λ conf p e. never (sym (irregular conf p) ∙ e);
+  sender_closed = λ conf p earlier place some before same e. impossible (sym (unreceived conf p place) ∙ e);
+  handed_received = λ conf p e. impossible (sym (irregular conf p) ∙ e);
   unordered_regular = λ p out. refl;
   members_begun = record {
-    member = λ conf p e. never (sym (ap (λ (x : Configuration Msg). has x.members p) (conf-none conf)) ∙ e);
-    server = λ p e. never e;
+    member = λ conf p e. impossible (sym (ap (λ (x : Configuration Msg). has x.members p) (conf-none conf)) ∙ e);
+    server = λ p e. impossible e;
     told = λ conf p. tt;
   };
-  past_left = record { member = λ conf p e. never e; left = λ conf p earlier e less. never e };
+  past_left = record { member = λ conf p e. impossible e; left = λ conf p earlier e less. impossible e };
 }
 
 nobody-remains : (p : ℕ) → has (remaining []) p ≡ false
@@ -86,12 +84,12 @@ talk = record {
     ordered = λ conf. ap (is_legal (members_in no_chronicle conf) conf no_talk) (ordered-none conf);
     waiting = λ conf p. refl;
   };
-  sent_iff_due = λ conf p e. never (sym (irregular conf p) ∙ e);
+  sent_iff_due = λ conf p e. impossible (sym (irregular conf p) ∙ e);
   heard_is_told = λ conf. subst (λ t. AreTold no_chronicle conf t.heard) (sym (heard-none conf)) tt;
   mode_fits = λ p. tt;
   content = λ conf p. tt;
   acts_numbered = record {
-    said = λ conf p ended remains. never (sym (nobody-remains p) ∙ sym (ap (λ t. has (remaining t.heard) p) (heard-none conf)) ∙ remains);
+    said = λ conf p ended remains. impossible (sym (nobody-remains p) ∙ sym (ap (λ t. has (remaining t.heard) p) (heard-none conf)) ∙ remains);
     handed = λ p. tt;
   };
 }
@@ -111,7 +109,7 @@ replica = record {
     in_messages = λ conf. subst (λ (xs : List (Sent Msg)). AreBooked no_chronicle (filter_map (λ s. action_in s.message) xs)) (sym (ordered-none conf)) tt;
     in_waiting = λ p. tt;
   };
-  origins = record { unbegun = λ p none. refl; starters = λ p was. never was; parts = λ conf. tt };
+  origins = record { unbegun = λ p none. refl; starters = λ p was. impossible was; parts = λ conf. tt };
   lines_below = record { actions = tt; cores = record { memory = λ p. tt; disk = λ p. tt; snapshot = λ joiner. tt } };
 }
 
@@ -123,7 +121,7 @@ exchange = record {
   summary_of_sender = record { fits = λ conf p. tt; levels = λ conf p. tt; outdone = λ conf p. tt; inside = λ conf p e. tt };
   summary_lines = λ conf p q. tt;
   tellers_still = λ conf p t told nothing last. absurd (let none : no_told ≡ Some t = told in cc);
-  exchange_progress = λ conf p e. never (sym (irregular conf p) ∙ e);
+  exchange_progress = λ conf p e. impossible (sym (irregular conf p) ∙ e);
 }
 
 attempt : AttemptFacts no_chronicle
@@ -134,7 +132,7 @@ attempt = record {
   left_out = λ conf p here. refl;
   levels_stand = record { opened = λ level less. absurd (omega arith); opens = λ conf. tt; known = record { memory = λ p. tt; disk = λ p. tt; snapshot = λ joiner. tt } };
   announced_entered = λ conf p some. absurd (let none = ap (λ xs. length (filter_map announcer_in xs)) (said-none conf p) in omega arith);
-  installed_announced = λ conf p e. never e;
+  installed_announced = λ conf p e. impossible e;
   act_installed = λ conf p decided some. absurd (let none = ap (λ xs. length (filter_map act_in xs)) (said-none conf p) in omega arith);
   record_of_attempt = record { memory = λ p. tt; disk = λ p. tt; snapshot = λ joiner. tt };
   installed_index = record { index = λ conf p. tt; count = λ conf p. tt };

@@ -22,7 +22,7 @@ use Rattle.cg_agree_lemmas.specs.ChronicleFacts.{node_of-set}
 use Rattle.cg_agree_lemmas.specs.GroupTurn.{put-same}
 use Rattle.cg_agree_lemmas.specs.HeldCommit.{recovered-id}
 use Rattle.cg_agree_lemmas.specs.OneStands.{Stands, stands-refl, stands-again, stands-handed, stands-up, stands-entered, stands-parted, stands-down, stands-turning}
-use Rattle.cg_agree_lemmas.specs.HandsKept.{regular-up}
+use Rattle.cg_group.specs.RefusalLaws.{regular-up}
 
 -- behind the step one replica stands so, and is up or not; and who has begun has begun
 pub record OneStep (c d : Chronicle) (p : ℕ) (now : Phase) (n : ℕ) (is : Bool) : Type 0 where

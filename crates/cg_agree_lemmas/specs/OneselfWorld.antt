@@ -1,6 +1,6 @@
 -- The facts of each replica by itself, where one replica has another life.
 use Rattle.std.proofs.Common.{◌≡◌, ℕ, ◌≢◌, Bool, true, false, cond, List, [], ◌++◌, length, drop, Option, Some, None, IfSome, is_some, refl, sym, ap, ap₂, ◌∙◌, subst, inl, inr, eqb-true, eq-eqb, option_map}
-use Rattle.std.specs.Prelude.{◌==◌, option_and_then}
+use Rattle.std.specs.Prelude.{◌==◌}
 use Rattle.std.specs.Option.{option_map_or}
 use Rattle.std.proofs.lemmas.Bool.{cases_eq, cond-true, cond-false, ne_eqb}
 use Rattle.cg_base.specs.FindLaws.{found_passes}
@@ -18,6 +18,7 @@ use Rattle.cg_agree_lemmas.specs.ChronicleFacts.{node_of-set, past_of-turn, gree
 use Rattle.cg_agree_lemmas.specs.HeldMarks.{IsOneself}
 use Rattle.cg_agree_lemmas.specs.HeldTurns.{Grows, Keeps}
 use Rattle.cg_agree_lemmas.specs.GreenMembers.{drop-front}
+use Rattle.cg_agree_lemmas.specs.Looking.{life_in}
 
 abbrev pub AreOneself : Chronicle → Type 0
 AreOneself c = OfCores c (IsOneself c.start)
@@ -33,9 +34,6 @@ pub record Rehosted (c d : Chronicle) (p : ℕ) (life : NodeState) (now stood : 
   pub disk : stood_of d p ≡ stood
   pub other_greens : (q : ℕ) → p ≢ q → greens_of d q ≡ greens_of c q
   pub other_disks : (q : ℕ) → p ≢ q → stood_of d q ≡ stood_of c q
-
-abbrev life_in : Option Node → Option Replica
-life_in o = option_and_then (λ s. running s.life) o
 
 abbrev disk_in : Option Node → Option Held
 disk_in o = option_map (λ s. on_disk s.life) o

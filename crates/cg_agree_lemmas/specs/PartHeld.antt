@@ -27,11 +27,11 @@ use Rattle.cg_group.specs.PlaceLaws.{at_place-within}
 use Rattle.cg_client.specs.Replica.{Held}
 use Rattle.cg_states.specs.ExchangeActions.{message_of}
 use Rattle.cg_model.specs.FactsReplica.{IsMadeOf}
-use Rattle.cg_agree_lemmas.specs.HandSays.{has_part}
 use Rattle.cg_agree_lemmas.specs.HandsContent.{turn-found}
 use Rattle.cg_agree_lemmas.specs.HeldMarks.{IsOneself, rising-green}
 use Rattle.cg_disk_records.specs.Holds.{cut_behind}
 use Rattle.cg_disk_records.specs.RunMarkLaws.{run-names}
+use Rattle.cg_model.specs.Total.{keeps_part}
 
 -- how much of a part is held
 abbrev pub HoldsPart : Held → List Action → Part → Type 0
@@ -83,7 +83,7 @@ red-held start h all creator i is above within =
       mapped (Some a) e = refl
 
 -- what is held of a part is sent
-pub part-held : (start : List Weighted) (h : Held) (all : List Action) (part : Part) → IsOneself start h all → HoldsPart h all part → has_part h.queue (Some part) ≡ true
+pub part-held : (start : List Weighted) (h : Held) (all : List Action) (part : Part) → IsOneself start h all → HoldsPart h all part → keeps_part h.queue (Some part) ≡ true
 part-held start h all (Greens from to) is holds = each (above_up_to (from - 1) to) (Each-above (from - 1) to) where
   each : (places : List ℕ) → Each (λ k. (from - 1 < k) × (k ≤ to)) places → list_all (λ item. is_some (message_of h.queue item)) (map Green places) ≡ true
   each [] within = refl
@@ -107,9 +107,9 @@ part-held start h all (Reds creator from to) is holds = each (above_up_to (from 
 
 -- a member that holds each of its own parts of a plan holds the one that begins at a place
 pub turn-held : (start : List Weighted) (h : Held) (all : List Action) (heard : List Summary) (me n : ℕ) → IsOneself start h all →
-    Each (λ (turn : SentPart). turn.sender ≡ me → HoldsPart h all turn.part) (plan_of heard) → has_part h.queue (turn_of (plan_of heard) me n) ≡ true
+    Each (λ (turn : SentPart). turn.sender ≡ me → HoldsPart h all turn.part) (plan_of heard) → keeps_part h.queue (turn_of (plan_of heard) me n) ≡ true
 turn-held start h all heard me n is each = at (turn_of (plan_of heard) me n) refl where
-  at : (o : Option Part) → turn_of (plan_of heard) me n ≡ o → has_part h.queue o ≡ true
+  at : (o : Option Part) → turn_of (plan_of heard) me n ≡ o → keeps_part h.queue o ≡ true
   at None e = refl
   at (Some part) e =
       let turn = turn-found (λ turn part. turn.sender ≡ me → HoldsPart h all part) (plan_of heard) me n part each e in

@@ -30,6 +30,7 @@ use Rattle.cg_model.specs.Small.{take_all, take_parting}
 use Rattle.cg_agree_lemmas.specs.HeldAll.{installed_by, install-all}
 use Rattle.cg_agree_lemmas.specs.HeldMarks.{IsOneself}
 use Rattle.cg_agree_lemmas.specs.TurnValues.{even-mark_red, even-mark_yellow}
+use Rattle.cg_agree_lemmas.specs.Looking.{is_waiting}
 
 -- ---- marks that make nothing green
 
@@ -75,11 +76,6 @@ is_resting TransPrim = true
 is_resting (NonPrim regular) = true
 is_resting Left = true
 is_resting _ = false
-
-abbrev pub is_waiting : State → Bool
-is_waiting (No conf heard) = true
-is_waiting Un = true
-is_waiting _ = false
 
 record Rests (t u : Turn) : Type 0 where
   pub greens : u.replica.held.queue.greens ≡ t.replica.held.queue.greens

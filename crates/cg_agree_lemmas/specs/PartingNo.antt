@@ -33,7 +33,7 @@ state-red : (t : Turn) (a : Action) → (mark_red t a).replica.state ≡ t.repli
 unfolding mark_red
 state-red t a = cond_both (is_unmade t.replica.held a) t (marked t a (marked_red t.replica.held.queue a)) (λ u. u.replica.state ≡ t.replica.state) (λ y. refl) (λ n. state-marked t a (marked_red t.replica.held.queue a))
 
-state-yellow : (t : Turn) (a : Action) → (mark_yellow t a).replica.state ≡ t.replica.state
+pub state-yellow : (t : Turn) (a : Action) → (mark_yellow t a).replica.state ≡ t.replica.state
 unfolding mark_yellow
 state-yellow t a = cond_both (is_unmade t.replica.held a) t (marked t a (marked_yellow t.replica.held.queue a)) (λ u. u.replica.state ≡ t.replica.state) (λ y. refl) (λ n. state-marked t a (marked_yellow t.replica.held.queue a))
 

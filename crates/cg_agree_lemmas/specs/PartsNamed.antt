@@ -30,6 +30,7 @@ use Rattle.cg_agree_lemmas.specs.KnownBounds.{unknown-creator}
 use Rattle.cg_agree_lemmas.specs.NamesAscend.{names_of_creators, reds-between}
 use Rattle.cg_agree_lemmas.specs.PartHeld.{name-found}
 use Rattle.cg_agree_lemmas.specs.YellowMeets.{reds-named}
+use Rattle.cg_queue.specs.NameLaws.{names-filter}
 
 -- ---- yellow
 
@@ -44,7 +45,7 @@ actions-names q (id ∷ ids) named =
       at (Some a) e some rest = ap₂ (λ x xs. x ∷ xs) (same_id-is a.id id (found_passes (λ (x : Action). same_id x.id id) (q.greens ++ q.reds) a e)) rest
 
 -- a list that doesn't count is empty
-none-invalid : (heard : List Summary) → (common_yellow heard).valid ≡ false → (common_yellow heard).list ≡ []
+pub none-invalid : (heard : List Summary) → (common_yellow heard).valid ≡ false → (common_yellow heard).list ≡ []
 unfolding common_yellow
 none-invalid heard e = at (lowest (yellow_group heard)) e where
   at : (o : Option Summary) → (yellow_in heard o).valid ≡ false → (yellow_in heard o).list ≡ []
@@ -58,13 +59,6 @@ yellow-names h heard same named = at h.yellow_valid refl where
   at false invalid = sym (none-invalid heard (sym (ap (λ (y : Yellow). y.valid) same) ∙ invalid))
 
 -- ---- reds
-
-names-filter : (t : ActionId → Bool) (actions : List Action) → names_of (filter (λ a. t a.id) actions) ≡ filter t (names_of actions)
-names-filter t [] = refl
-names-filter t (a ∷ actions) = by (t a.id) (filter (λ a. t a.id) actions) (names-filter t actions) where
-  by : (b : Bool) (xs : List Action) → names_of xs ≡ filter t (names_of actions) → names_of (cond b (a ∷ xs) xs) ≡ cond b (a.id ∷ filter t (names_of actions)) (filter t (names_of actions))
-  by true xs e = ap (λ ids. a.id ∷ ids) e
-  by false xs e = e
 
 -- the creators that some member knows ascend
 rising-member : (set : List ℕ) (low p : ℕ) → low ≤ p → IsRising low set → IsRising low (with_member set p)

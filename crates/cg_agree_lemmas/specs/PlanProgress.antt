@@ -8,7 +8,7 @@ use Rattle.cg_base.specs.declared.weighted.Weighted.{Weighted}
 use Rattle.cg_base.specs.Cuts.{index_in, raise}
 use Rattle.cg_base.specs.Lists.{at_place}
 use Rattle.cg_action.specs.declared.action.Action.{Action}
-use Rattle.cg_queue.specs.Queue.{names_of, green_count, marked_red, placed_red}
+use Rattle.cg_queue.specs.Queue.{names_of, green_count, marked_red}
 use Rattle.cg_queue.specs.MarkLaws.{red-known, red-placed}
 use Rattle.cg_knowledge.specs.declared.summary.Summary.{Summary}
 use Rattle.cg_knowledge.specs.Summaries.{most_updated}
@@ -18,7 +18,7 @@ use Rattle.cg_plan.specs.Items.{items_of_plan}
 use Rattle.cg_plan.specs.Plan.{least_greens, least_reds, plan_of}
 use Rattle.cg_client.specs.Replica.{Held}
 use Rattle.cg_client.specs.Turn.{Turn}
-use Rattle.cg_client.specs.Marks.{is_unmade, marked, mark_red, after_first, can_be_green, place_green, mark_green, mark_green_at, with_green}
+use Rattle.cg_client.specs.Marks.{is_unmade, marked, mark_red, can_be_green, place_green, mark_green, mark_green_at, with_green}
 use Rattle.cg_model.specs.Chronicle.{Told}
 use Rattle.cg_model.specs.FactsExchange.{red_index, red_behind}
 use Rattle.cg_disk_records.specs.Holds.{run_on, cut_behind}
@@ -32,6 +32,7 @@ use Rattle.cg_agree_lemmas.specs.RunFronts.{run_on-front}
 use Rattle.cg_disk_records.specs.RunMarkLaws.{run-head}
 use Rattle.cg_disk_records.specs.HeldLaws.{names-behind}
 use Rattle.cg_agree_lemmas.specs.TurnGreens.{made-count}
+use Rattle.cg_disk_records.specs.HoldsMarkLaws.{known_by}
 
 -- the most updated member and another one that remains, as they came: so many greens all that remain have
 pub record AreBeside (heard : List Summary) (low : ℕ) (best mine : Told) : Type 0 where
@@ -55,12 +56,9 @@ pub record IsBehind (start : List Weighted) (heard : List Summary) (low n : ℕ)
 -- ---- marks of what is held
 
 -- what is held behind an action that is red at the next index
-abbrev pub with_red_held : Held → Action → Held
-with_red_held h a = record h { queue = placed_red h.queue a; own = after_first h.own a.id }
-
 -- an action becomes red that is the next of its creator
 red-next : (t : Turn) (a : Action) → is_unmade t.replica.held a ≡ false → a.id.index ≡ suc (index_in t.replica.held.queue.red_cut a.id.creator) →
-    (mark_red t a).replica.held ≡ with_red_held t.replica.held a
+    (mark_red t a).replica.held ≡ known_by t.replica.held a
 unfolding mark_red
 red-next t a made next =
     let h = t.replica.held in
@@ -217,7 +215,7 @@ module _ (start : List Weighted) (heard : List Summary) (low n : ℕ) (best mine
       let index : a.id.index ≡ suc (index_in h.queue.red_cut a.id.creator) = omega arith in
       subst (IsBehind start heard low (suc n) best mine) (sym (red-next t a made index))
       (record {
-        oneself = subst (λ x. IsOneself start (with_red_held h a) (take x best.greens)) (sym step) (red-oneself start h all is.oneself a index);
+        oneself = subst (λ x. IsOneself start (known_by h a) (take x best.greens)) (sym step) (red-oneself start h all is.oneself a index);
         red = λ creator. placed creator (cases_eq a.id.creator creator);
       }))
       (cases_lt a.id.index (suc (index_in h.queue.red_cut a.id.creator)))

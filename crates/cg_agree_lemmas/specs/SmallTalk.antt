@@ -15,7 +15,6 @@ use Rattle.cg_group.specs.declared.reason.Reason.{Reason}
 use Rattle.cg_group.specs.Events.{receive, with_receipt}
 use Rattle.cg_group.specs.Refusals.{order_refusal, not_up, not_regular, nothing_to_order}
 use Rattle.cg_group.specs.LookupLaws.{standing_of-set_configuration, configuration-set, at-cond, at_place-changed, eqb_comm}
-use Rattle.cg_client.specs.Replica.{Replica}
 use Rattle.cg_model.specs.World.{replica_of}
 use Rattle.cg_model.specs.Chronicle.{Chronicle}
 use Rattle.cg_model.specs.Looks.{conf_of, is_regular_at, is_regular_in, members_in, ordered_in}
@@ -27,7 +26,7 @@ use Rattle.cg_agree_lemmas.specs.HandsKept.{regular-phase}
 use Rattle.cg_agree_lemmas.specs.GroupTurn.{standing-id, put-same}
 use Rattle.cg_agree_lemmas.specs.OrdersWorld.{orders-said}
 use Rattle.cg_agree_lemmas.specs.UnorderedKept.{regular-where_ordered, first-none}
-use Rattle.cg_agree_lemmas.specs.TalkFrame.{SameTalk, IsShownAs}
+use Rattle.cg_agree_lemmas.specs.TalkFrame.{SameTalk, shown-itself}
 
 -- a configuration with a member is there
 pub conf-there : (g : GroupState Msg) (conf p : ℕ) → has (configuration g conf).members p ≡ true → (0 < conf) × (conf ≤ length g.configurations)
@@ -41,10 +40,6 @@ conf-there g (suc n) p h = (
 )
 
 -- a replica is shown as itself
-shown-itself : (o : Option Replica) → IsShownAs o o
-shown-itself None = tt
-shown-itself (Some r) = (refl, refl)
-
 pub within-phase : (c : Chronicle) (q k : ℕ) (phase : Phase) → phase_of c.world.group q ≡ phase → IsPhase c q (delivered_to c.world.group q) phase → is_regular_at k phase ≡ true →
     delivered_to c.world.group q ≤ length (ordered_in c k)
 within-phase c q k Down at is here = absurd (let clash : false ≡ true = here in cc)

@@ -24,7 +24,7 @@ use Rattle.cg_agree_lemmas.specs.DiskAhead.{OwnRuns}
 use Rattle.cg_agree_lemmas.specs.CreatedKept.{StaysCreated, created-rule, created-first}
 use Rattle.cg_agree_lemmas.specs.MadeGrows.{IsShown, create-shown, buffered-shown, stays-shown}
 use Rattle.cg_agree_lemmas.specs.TurnRows.{of-deliveries}
-use Rattle.cg_agree_lemmas.specs.KeptEmpty.{anything}
+use Rattle.cg_model.specs.RowLaws.{any-deliveries}
 
 -- an action is of that replica, made with the greens that it has
 abbrev pub IsOwnNow : Held → Action → Type 0
@@ -135,6 +135,6 @@ unfolding replica_step
 step-makes cut start r all (Deliveries list) rising is counts =
     let t = fold after_delivery (begin r) list in
     settle-makes cut rising r.held t (stays-makes cut rising r.held counts t
-    (of-deliveries (StaysCreated r.held) (λ a. Unit {0}) (created-rule r.held) (begin r) list (anything list) (record { held = created-first start r.held all is; made = refl })))
+    (of-deliveries (StaysCreated r.held) (λ a. Unit {0}) (created-rule r.held) (begin r) list (any-deliveries list) (record { held = created-first start r.held all is; made = refl })))
 step-makes cut start r all (Asks kind) rising is counts =
     request-makes cut rising r.held (begin r) kind (stays-makes cut rising r.held counts (begin r) (record { held = created-first start r.held all is; made = refl }))

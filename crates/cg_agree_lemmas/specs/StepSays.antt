@@ -15,12 +15,13 @@ use Rattle.cg_disk_records.specs.Holds.{cut_behind}
 use Rattle.cg_agree_lemmas.specs.HeldMarks.{IsOneself, rising-green}
 use Rattle.cg_agree_lemmas.specs.CreatedKept.{StaysCreated, created-rule, created-first}
 use Rattle.cg_agree_lemmas.specs.TurnRows.{of-deliveries}
-use Rattle.cg_agree_lemmas.specs.KeptEmpty.{anything}
 use Rattle.cg_agree_lemmas.specs.MadeWorlds.{IsCoreAt}
 use Rattle.cg_agree_lemmas.specs.RepliesPlaced.{reply_ids}
 use Rattle.cg_agree_lemmas.specs.TurnReplies.{owed_behind, replies_in, IsAnswered, step-answered}
 use Rattle.cg_agree_lemmas.specs.OwedNames.{own_name, own_names, own-append, is_behind, owed_names, owed-on}
 use Rattle.cg_disk_records.specs.HeldLaws.{names-behind}
+use Rattle.cg_model.specs.RowLaws.{any-deliveries}
+use Rattle.cg_client.specs.OwnLaws.{last_index-push}
 
 -- ---- what is made
 
@@ -32,11 +33,6 @@ record HasMade (old : Held) (t : Turn) : Type 0 where
   made : names_of t.made ≡ own_names old.id (created old) count
   green : index_in t.replica.held.queue.green_cut old.id ≤ created old
 
-last-added : (own : List Action) (a : Action) → last_index (own ++ a ∷ []) ≡ a.id.index
-last-added [] a = refl
-last-added (b ∷ []) a = refl
-last-added (b ∷ d ∷ own) a = last-added (d ∷ own) a
-
 create-makes : (old : Held) (t : Turn) (kind : Kind) → HasMade old t → HasMade old (create t kind)
 unfolding create
 create-makes old t kind is =
@@ -44,7 +40,7 @@ create-makes old t kind is =
     let a = next_action h kind in
     let count = is.count in
     let before : max (index_in h.queue.red_cut h.id) (last_index h.own) ≡ created old + count = is.reached in
-    let last : last_index (h.own ++ a ∷ []) ≡ suc (max (index_in h.queue.red_cut h.id) (last_index h.own)) = last-added h.own a in
+    let last : last_index (h.own ++ a ∷ []) ≡ suc (max (index_in h.queue.red_cut h.id) (last_index h.own)) = last_index-push h.own a in
     let now : max (index_in h.queue.red_cut h.id) (last_index (h.own ++ a ∷ [])) ≡ created old + suc count = omega arith in
     let name : a.id ≡ own_name old.id (suc (created old + count)) = (λ i. record { creator = is.id i; index = suc (is.reached i) }) in
     let sum : suc count ≡ count + 1 = omega arith in
@@ -104,7 +100,7 @@ unfolding replica_step
 step-makes start r all (Deliveries list) is =
     let t = fold after_delivery (begin r) list in
     settle-makes r.held t (stays-made r.held t
-    (of-deliveries (StaysCreated r.held) (λ a. Unit {0}) (created-rule r.held) (begin r) list (anything list) (record { held = created-first start r.held all is; made = refl })))
+    (of-deliveries (StaysCreated r.held) (λ a. Unit {0}) (created-rule r.held) (begin r) list (any-deliveries list) (record { held = created-first start r.held all is; made = refl })))
 step-makes start r all (Asks kind) is = request-makes r.held (begin r) kind (stays-made r.held (begin r) (record { held = created-first start r.held all is; made = refl }))
 
 -- ---- what is owed

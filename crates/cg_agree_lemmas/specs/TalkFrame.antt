@@ -100,3 +100,7 @@ module _ (c d : Chronicle) (same : SameTalk c d) where
     told = λ k. subst (λ (t : Talk). AreTold d k t.heard) (sym (whole-same k)) (told-frame k (whole_talk c k).heard (old.told k));
     modes = λ x. subst (λ (y : Phase). IfSome (replica_of d.world x) (IsStateIn d x y)) (sym (same.phase x)) (some-same x (replica_of c.world x) (replica_of d.world x) (same.replica x) (old.modes x));
   }
+
+pub shown-itself : (o : Option Replica) → IsShownAs o o
+shown-itself None = tt
+shown-itself (Some r) = (refl, refl)

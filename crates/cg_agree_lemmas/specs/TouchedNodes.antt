@@ -1,12 +1,11 @@
 -- A replica that an event doesn't touch keeps its node, and stands in the group as it did.
-use Rattle.std.proofs.Common.{◌≡◌, ℕ, zero, suc, ◌+◌, min, false, ◌&&◌, List, [], ◌∷◌, ◌++◌, fold, map, find, Option, Some, None, IfSome, option_map, refl, ap, ◌∙◌, eqb-true, sym, subst, inl, inr}
+use Rattle.std.proofs.Common.{◌≡◌, ℕ, zero, suc, ◌+◌, min, false, List, [], ◌∷◌, ◌++◌, fold, map, Option, Some, None, IfSome, option_map, refl, ap, ◌∙◌, sym, subst, inl, inr}
 use Rattle.std.specs.Prelude.{◌==◌}
 use Rattle.std.specs.Option.{option_map_or}
-use Rattle.std.proofs.lemmas.Bool.{cond-false, cond_both, or_parts, and_parts}
+use Rattle.std.proofs.lemmas.Bool.{cond-false, cond_both, or_parts}
 use Rattle.cg_base.specs.declared.weighted.Weighted.{Weighted}
 use Rattle.cg_base.specs.Sets.{has}
 use Rattle.cg_base.specs.Weights.{ids}
-use Rattle.cg_base.specs.FindLaws.{found_passes}
 use Rattle.cg_action.specs.declared.action.Kind.TheVariants.{Update, Join as JoinKind, Leave as LeaveKind}
 use Rattle.cg_wire.specs.declared.message.Msg.{Msg}
 use Rattle.cg_group.specs.declared.phase.Phase.{Phase}
@@ -31,18 +30,9 @@ use Rattle.cg_agree_lemmas.specs.ChronicleFacts.{node_of-set}
 use Rattle.cg_agree_lemmas.specs.HeldCommit.{recovered-id}
 use Rattle.cg_agree_lemmas.specs.DiskSwaps.{Swaps, downgrade-swaps, recover_under-cases}
 use Rattle.cg_client.specs.Joined.{piece_count}
+use Rattle.cg_model.specs.NodeLaws.{snapshot-joiner}
 
 -- the snapshot of which pieces are taken is one of this joiner
-snapshot-joiner : (w : World) (p joiner : ℕ) (r : Replica) → (snapshot_for w p joiner r).joiner ≡ joiner
-snapshot-joiner w p joiner r = at (find (λ s. (s.joiner == joiner) && (s.giver == p)) w.snapshots) refl where
-  new : TransferState
-  new = record { joiner = joiner; giver = p; content = r.held; taken = 0 }
-
-  at : (o : Option TransferState) → find (λ s. (s.joiner == joiner) && (s.giver == p)) w.snapshots ≡ o → (option_map_or (λ s. s) o new).joiner ≡ joiner
-  at None e = refl
-  at (Some s) e =
-      eqb-true s.joiner joiner (and_parts (s.joiner == joiner) (s.giver == p) (found_passes (λ (s : TransferState). (s.joiner == joiner) && (s.giver == p)) w.snapshots s e)).0
-
 module _ (q : ℕ) where
   pub record Stays (w v : World) : Type 0 where
     pub node : node_of v q ≡ node_of w q

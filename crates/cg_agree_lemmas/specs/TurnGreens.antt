@@ -1,7 +1,7 @@
 -- What is green of a replica behind an event: what was, and behind it the names that its turn noted, where the turn stands.
 use Rattle.std.proofs.lemmas.List.{length-drop, drop-append-le}
 use Rattle.std.proofs.Math.Seq.{drop-append_seam}
-use Rattle.std.proofs.Common.{◌≡◌, ◌++◌, ◌∷◌, ◌≤◌, ◌∙◌, ◌⊎◌, ◌-◌, IfSome, List, Option, Some, ap, arith, drop, inl, inr, length, refl, subst, suc, sym, ℕ, []}
+use Rattle.std.proofs.Common.{◌≡◌, ◌++◌, ◌∷◌, ◌≤◌, ◌∙◌, ◌⊎◌, ◌-◌, IfSome, List, Option, Some, ap, arith, drop, inl, inr, length, refl, subst, sym, ℕ, []}
 use Rattle.cg_action.specs.declared.action.Action.{Action}
 use Rattle.cg_agree_lemmas.specs.FrontFacts.{Front-refl, Front-trans, same_from_Front, split_by_Front}
 use Rattle.cg_agree_lemmas.specs.GreensTold.{IsNoted}
@@ -22,16 +22,9 @@ use Rattle.cg_client.specs.Replica.{Held, Replica}
 use Rattle.cg_client.specs.Turn.{Turn}
 use Rattle.cg_queue.specs.Queue.{green_count, names_of}
 use Rattle.cg_disk_records.specs.Stored.{stored_of, whiten}
+use Rattle.cg_queue.specs.NameLaws.{names-append}
 
 -- ---- lists
-
-pub names-append : (xs ys : List Action) → names_of (xs ++ ys) ≡ names_of xs ++ names_of ys
-names-append [] ys = refl
-names-append (x ∷ xs) ys = ap (λ list. x.id ∷ list) (names-append xs ys)
-
-pub names-count : (xs : List Action) → length (names_of xs) ≡ length xs
-names-count [] = refl
-names-count (x ∷ xs) = ap suc (names-count xs)
 
 pub same-behind : (xs ys zs : List ActionId) → xs ++ ys ≡ xs ++ zs → ys ≡ zs
 same-behind xs ys zs e = sym (drop-append_seam xs ys) ∙ ap (drop (length xs)) e ∙ drop-append_seam xs zs

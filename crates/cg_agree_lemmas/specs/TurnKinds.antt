@@ -26,7 +26,7 @@ use Rattle.cg_states.specs.PlanEnd.{take_over, attempt, decide, end_plan}
 use Rattle.cg_states.specs.Construct.{attempt_set, is_announced, construct_with}
 use Rattle.cg_states.specs.No.{no_with}
 use Rattle.cg_states.specs.ReplicaStep.{on_message}
-use Rattle.cg_model.specs.FactsReplica.{is_attempting, is_primary}
+use Rattle.cg_model.specs.FactsReplica.{is_attempting, is_primary, is_exchanging}
 use Rattle.cg_agree_lemmas.specs.TurnValues.{SameValues, same-values, values-then, IsEven, even-refl, even-mark_red, even-mark_yellow, even-mark_green, even-take_item, even-send_part, even-installed}
 
 -- the same actions and servers
@@ -134,11 +134,6 @@ installed-then a b e one two = record {
 -- ---- the end of a plan
 
 -- the state of an exchange
-abbrev is_exchanging : State → Bool
-is_exchanging (ExchangeStates conf set heard) = true
-is_exchanging (ExchangeActions conf heard accepted) = true
-is_exchanging _ = false
-
 exchanging-not : (state : State) → is_exchanging state ≡ true → (is_attempting state ≡ false) × (is_primary state ≡ false)
 exchanging-not (ExchangeStates conf set heard) e = (refl, refl)
 exchanging-not (ExchangeActions conf heard accepted) e = (refl, refl)

@@ -23,7 +23,7 @@ use Rattle.cg_disk_records.specs.Holds.{run_on, cut_behind}
 use Rattle.cg_disk_records.specs.RunLaws.{cut_behind-append, run_on-next}
 use Rattle.cg_disk_records.specs.HeldLaws.{names-behind}
 use Rattle.cg_agree_lemmas.specs.TurnRows.{IsRule, of-deliveries}
-use Rattle.cg_agree_lemmas.specs.KeptEmpty.{anything}
+use Rattle.cg_model.specs.RowLaws.{any-deliveries}
 
 -- a database behind actions, the replies that are owed behind them, and those that they give
 abbrev pub db_behind : List DbEntry → List Action → List DbEntry
@@ -229,7 +229,7 @@ pub step-answered : (r : Replica) (input : Input) → IsAnswered r.held (replica
 unfolding replica_step
 step-answered r (Deliveries list) =
     let t = fold after_delivery (begin r) list in
-    settle-answered r.held t (of-deliveries (IsTakenUp r.held) (λ a. Unit {0}) (answered-rule r.held) (begin r) list (anything list) (record { made = refl; is = first-answered r })).is
+    settle-answered r.held t (of-deliveries (IsTakenUp r.held) (λ a. Unit {0}) (answered-rule r.held) (begin r) list (any-deliveries list) (record { made = refl; is = first-answered r })).is
 step-answered r (Asks kind) = request-answered r.held (begin r) kind (first-answered r)
 
 -- own actions that become red change nothing of what is owed

@@ -31,7 +31,7 @@ use Rattle.cg_agree_lemmas.specs.CreatesTalk.{Adds, adds-create, adds-kept, crea
 use Rattle.cg_agree_lemmas.specs.ChronicleFacts.{node_of-set}
 use Rattle.cg_agree_lemmas.specs.SmallTalk.{conf-there}
 use Rattle.cg_agree_lemmas.specs.TalkCommute.{clash}
-use Rattle.cg_agree_lemmas.specs.TalkFrame.{SameTalk, IsShownAs, same-said}
+use Rattle.cg_agree_lemmas.specs.TalkFrame.{SameTalk, IsShownAs, same-said, shown-itself}
 
 -- a turn that says nothing and changes neither the state nor the attempt that is named
 pub record IsQuiet (r : Replica) (u : Turn) : Type 0 where
@@ -167,10 +167,6 @@ asks-kept c p kind sound mode said = turn-kept c p (take_request kind) sound mod
 
 -- ---- a commit
 
-as-itself : (o : Option Replica) → IsShownAs o o
-as-itself None = tt
-as-itself (Some x) = (refl, refl)
-
 -- a replica with the same state, in its node
 life-shown : (w : World) (p : ℕ) (r new : Replica) (disk disk' : Disk) → node_of w p ≡ Some (record { id = p; life = Up r disk }) →
     new.state ≡ r.state → attempt_set new.held ≡ attempt_set r.held → (q : ℕ) → IsShownAs (replica_of w q) (replica_of (set_life w p (Up new disk')) q)
@@ -179,7 +175,7 @@ life-shown w p r new disk disk' node state set q = ⊎_elim
     let before : replica_of w q ≡ Some r = ap (replica_of w) (eqb-true q p is) ∙ ap (option_and_then (λ (x : Node). running x.life)) node in
     let after : replica_of (set_life w p (Up new disk')) q ≡ Some new = behind ∙ cond-true (q == p) (Some new) (replica_of w q) is in
     subst (λ (o : Option Replica). IsShownAs o (replica_of (set_life w p (Up new disk')) q)) (sym before) (subst (λ (o : Option Replica). IsShownAs (Some r) o) (sym after) (state, set)))
-    (λ isnt. subst (λ (o : Option Replica). IsShownAs (replica_of w q) o) (sym (behind ∙ cond-false (q == p) (Some new) (replica_of w q) isnt)) (as-itself (replica_of w q)))
+    (λ isnt. subst (λ (o : Option Replica). IsShownAs (replica_of w q) o) (sym (behind ∙ cond-false (q == p) (Some new) (replica_of w q) isnt)) (shown-itself (replica_of w q)))
     (cases_Bool (q == p)) where
       behind : replica_of (set_life w p (Up new disk')) q ≡ cond (q == p) (Some new) (replica_of w q)
       behind = ap (option_and_then (λ (x : Node). running x.life)) (node_of-set w p (Up new disk') q)

@@ -26,3 +26,13 @@ or_else false b is either = either
 pub cond_twice : {X : Type 0} (b : Bool) (x y z : X) → cond b x (cond b y z) ≡ cond b x z
 cond_twice true x y z = refl
 cond_twice false x y z = refl
+
+-- what isn't so
+pub impossible : {A : Type 0} → false ≡ true → A
+impossible e = absurd (let clash : false ≡ true = e in cc)
+
+pub or_comm : (a b : Bool) → (a || b) ≡ (b || a)
+or_comm true true = refl
+or_comm true false = refl
+or_comm false true = refl
+or_comm false false = refl

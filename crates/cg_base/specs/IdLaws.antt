@@ -1,11 +1,11 @@
 -- When two names of actions are one, and which comes before.
-use Rattle.std.proofs.Common.{◌≡◌, ◌≢◌, ◌⊎◌, ◌<◌, List, Contains, arith, true, false, refl, sym, ap, eqb, eqb-true, inl, inr}
+use Rattle.std.proofs.Common.{◌≡◌, ◌≢◌, ◌⊎◌, ◌<◌, List, Contains, arith, true, false, refl, sym, ap, eqb, eqb-true, inl, inr, ◌∷◌, ◌++◌, ◌||◌, ◌∙◌, []}
 use Rattle.std.specs.Prelude.{◌==◌}
-use Rattle.std.specs.List.{list_any}
 use Rattle.std.proofs.lemmas.Bool.{cases_Bool, and_parts, eq-eqb, ne_eqb, lt-ltb, le-ltb}
 use Rattle.cg_base.specs.declared.action_id.ActionId.{ActionId}
-use Rattle.cg_base.specs.Ids.{same_id, id_before}
+use Rattle.cg_base.specs.Ids.{same_id, id_before, has_name}
 use Rattle.cg_base.specs.ElementLaws.{any-contains}
+use Rattle.cg_base.specs.BoolLaws.{or_assoc}
 
 pub same_id-false : (a b : ActionId) → (a.creator ≢ b.creator) ⊎ (a.index ≢ b.index) → same_id a b ≡ false
 same_id-false a b (inl apart) = rw (ne_eqb a.creator b.creator apart)
@@ -34,8 +34,8 @@ same_id-back a b same =
     same_id-true b a (ap (λ (x : ActionId). x.creator) (sym is)) (ap (λ (x : ActionId). x.index) (sym is))
 
 -- a name that stands in the list is found there
-pub named-contained : (ids : List ActionId) (id : ActionId) → Contains ids id → list_any (same_id id) ids ≡ true
-named-contained ids id there = any-contains (same_id id) ids id there (same_id-self id)
+pub has_name-contained : (ids : List ActionId) (id : ActionId) → Contains ids id → has_name ids id ≡ true
+has_name-contained ids id there = any-contains (same_id id) ids id there (same_id-self id)
 
 -- ---- which name comes before
 
@@ -48,3 +48,7 @@ before-index a b same lt = rw (
   eq-eqb a.creator b.creator same,
   lt-ltb a.index b.index lt,
 ) refl
+
+pub has_name-append : (xs ys : List ActionId) (id : ActionId) → has_name (xs ++ ys) id ≡ (has_name xs id || has_name ys id)
+has_name-append [] ys id = refl
+has_name-append (x ∷ xs) ys id = ap (λ b. same_id id x || b) (has_name-append xs ys id) ∙ sym (or_assoc (same_id id x) (has_name xs id) (has_name ys id))

@@ -3,7 +3,7 @@ use Rattle.std.proofs.Common.{◌≡◌, ℕ, zero, suc, ◌+◌, ◌-◌, ◌<�
 use Rattle.std.specs.Prelude.{slice_get}
 use Rattle.std.proofs.lemmas.Bool.{cond_both}
 use Rattle.std.proofs.lemmas.Option.{same_Some}
-use Rattle.cg_base.specs.Lists.{count_up, at_place, greatest}
+use Rattle.cg_base.specs.Lists.{count_up, at_place, greatest, row_at}
 use Rattle.cg_base.specs.Text.{is_nil}
 
 pub length-count_up : (from n : ℕ) → length (count_up from n) ≡ n
@@ -105,3 +105,9 @@ greatest-append (m ∷ ms) ns =
     let front = fold_max-is (max 0 m) ms in
     let rest = greatest-append ms ns in
     omega arith
+
+-- nothing stands behind the last row
+pub row_at-past : {X : Type 0} (rows : List (List X)) (k : ℕ) → length rows ≤ k → row_at rows k ≡ []
+row_at-past [] k past = refl
+row_at-past (row ∷ rows) zero past = absurd (omega arith)
+row_at-past (row ∷ rows) (suc k) past = row_at-past rows k (omega arith)

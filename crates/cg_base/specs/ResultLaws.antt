@@ -11,9 +11,3 @@ OnOk_then (Err e) ok p = absurd (cc)
 pub cond_ok : {X E : Type 0} (b : Bool) (x y : X) (fault : E) → cond b (Ok x) (Err fault) ≡ Ok y → (b ≡ true) × (x ≡ y)
 cond_ok true x y fault e = (refl, cc)
 cond_ok false x y fault e = absurd (cc)
-
--- a fault that did not come
-pub cond_unless : {X E : Type 0} (b : Bool) (fault : E) (r : Result X E) (y : X) → cond b (Err fault) r ≡ Ok y →
-    (b ≡ false) × (r ≡ Ok y)
-cond_unless true fault r y e = absurd (cc)
-cond_unless false fault r y e = (refl, e)

@@ -5,7 +5,7 @@ use Rattle.std.proofs.lemmas.Bool.{cases_eq, cases_order, cases_Bool, eq-eqb, ne
 use Rattle.cg_base.specs.Lists.{count_up}
 use Rattle.cg_base.specs.Sets.{IsId, IsSet, Ascends, has, with_member, without_member, union, common, without, least, is_within}
 use Rattle.cg_base.specs.Replicas.{every_replica}
-use Rattle.cg_base.specs.BoolLaws.{and_false, or_assoc}
+use Rattle.cg_base.specs.BoolLaws.{and_false, or_assoc, or_comm}
 
 -- ---- ascending lists
 
@@ -34,12 +34,6 @@ or_again true b = refl
 or_again false true = refl
 or_again false false = refl
 
-or_front : (a b : Bool) → (a || b) ≡ (b || a)
-or_front true true = refl
-or_front true false = refl
-or_front false true = refl
-or_front false false = refl
-
 pub with_member-same : (q : ℕ) (set : List ℕ) (p : ℕ) → p ≡ q → with_member (q ∷ set) p ≡ q ∷ set
 with_member-same q set p same = rw (eq-eqb p q same)
 
@@ -50,12 +44,12 @@ pub with_member-later : (q : ℕ) (set : List ℕ) (p : ℕ) → q < p → with_
 with_member-later q set p lt = rw (ne_eqb p q (λ e. omega arith), le-ltb p q (omega arith))
 
 pub has-with_member : (set : List ℕ) (p k : ℕ) → has (with_member set p) k ≡ (has set k || eqb p k)
-has-with_member [] p k = or_front (eqb p k) false
+has-with_member [] p k = or_comm (eqb p k) false
 has-with_member (q ∷ set) p k = elim (cases_order p q) [
   | inl same ↦ rw (with_member-same q set p same) (or_again (eqb q k) (has set k)
       ∙ ap (λ n. (eqb q k || has set k) || eqb n k) (sym same))
   | inr other ↦ elim other [
-    | inl front ↦ rw (with_member-front q set p front) (or_front (eqb p k) (eqb q k || has set k))
+    | inl front ↦ rw (with_member-front q set p front) (or_comm (eqb p k) (eqb q k || has set k))
     | inr later ↦ rw (with_member-later q set p later) (ap (λ b. eqb q k || b) (has-with_member set p k)
         ∙ sym (or_assoc (eqb q k) (has set k) (eqb p k)))
   ]
@@ -119,7 +113,7 @@ Ascends-filter test (q ∷ set) low ascends = elim (cases_Bool (test q)) [
 -- ---- two sets
 
 pub has-union : (s t : List ℕ) (k : ℕ) → has (union s t) k ≡ (has s k || has t k)
-has-union s [] k = or_front false (has s k)
+has-union s [] k = or_comm false (has s k)
 has-union s (p ∷ t) k = has-union (with_member s p) t k ∙ ap (λ b. b || has t k) (has-with_member s p k)
     ∙ or_assoc (has s k) (eqb p k) (has t k)
 

@@ -1,11 +1,9 @@
 -- What queries find behind actions is found in the database, but for the part at the keys that the actions name.
 use Rattle.std.proofs.Common.{◌≡◌, ℕ, ◌+◌, ◌-◌, ◌≤◌, Bool, true, false, cond, not, ◌||◌, List, [], ◌∷◌, length, refl, sym, ap, ◌∙◌, arith}
-use Rattle.std.specs.Prelude.{pos}
 use Rattle.std.specs.Prelude.{Option, Some, None, is_some, fold, filter, Result, Ok, Err, IfOk}
 use Rattle.std.proofs.lemmas.List.Filters.{length-filter_both}
 use Rattle.cg_text.specs.Order.{same_text, text_before, begins_with}
 use Rattle.cg_action.specs.declared.value.Value.{Value}
-use Rattle.cg_action.specs.declared.value.Value.TheVariants.{Int}
 use Rattle.cg_action.specs.declared.action.Action.{Action}
 use Rattle.cg_action.specs.declared.query.Query.{Query}
 use Rattle.cg_action.specs.declared.query.Query.TheVariants.{Get, Keys as KeysOf, Count as CountAll}
@@ -19,7 +17,7 @@ use Rattle.cg_db.specs.TextOrderLaws.{same-refl}
 use Rattle.cg_db.specs.EntryLaws.{IsBefore-through}
 use Rattle.cg_db.specs.Apply.{fold_actions_from}
 use Rattle.cg_client.specs.Overlay.{named_part, has_key, with_mark, merged_keys, answer_with}
-use Rattle.cg_db.specs.AscendingLaws.{entry, Ascends-filter}
+use Rattle.cg_db.specs.AscendingLaws.{Ascends-filter, as_db, keys-as_db}
 use Rattle.cg_client.proofs.Splitting.{only, others, put_entry, value_of-only, value_of-missing, built, built_alone}
 use Rattle.cg_client.proofs.Running.{IsPart, actions-run}
 use Rattle.cg_client.proofs.Choosing.{among, keys_in, named_part-is, named-all}
@@ -62,17 +60,6 @@ part-fits db part actions is up =
     omega (arith, both, size)
 
 -- ---- which keys
-
-abbrev mark : Value
-mark = Int (pos 0)
-
-abbrev as_db : List (List ℕ) → List DbEntry
-as_db [] = []
-as_db (t ∷ ts) = entry t mark ∷ as_db ts
-
-keys-as_db : (ts : List (List ℕ)) → keys (as_db ts) ≡ ts
-keys-as_db [] = refl
-keys-as_db (t ∷ ts) = ap (λ (us : List (List ℕ)). t ∷ us) (keys-as_db ts)
 
 marked : (db : List DbEntry) (ts : List (List ℕ)) → fold with_mark db ts ≡ fold put_entry db (as_db ts)
 marked db [] = refl

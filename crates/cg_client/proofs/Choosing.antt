@@ -12,12 +12,14 @@ use Rattle.cg_action.specs.declared.action.Action.{Action}
 use Rattle.cg_action.specs.declared.entry.DbEntry.{DbEntry}
 use Rattle.cg_db.specs.Map.{value_of, put}
 use Rattle.cg_db.specs.Ascending.{IsBefore, Ascends}
-use Rattle.cg_db.specs.TextOrderLaws.{same-is, same-refl, same-sym, before-apart}
+use Rattle.cg_db.specs.TextOrderLaws.{same-refl, same-sym, before-apart}
 use Rattle.cg_db.specs.EntryLaws.{IsBefore-through}
 use Rattle.cg_client.specs.Overlay.{keys_of, commands_of, put_found, with_key, with_command, with_commands, with_action, named_part}
 use Rattle.cg_db.specs.AscendingLaws.{entry, IsBefore-filter, value_of-before}
 use Rattle.cg_client.proofs.Splitting.{only, put-first}
 use Rattle.cg_client.proofs.Running.{Every, EveryOf, EveryIn}
+use Rattle.cg_base.specs.BoolLaws.{or_false}
+use Rattle.cg_text.specs.OrderLaws.{same_text-is}
 
 -- ---- one key more
 
@@ -53,7 +55,7 @@ found_first : (p : List ℕ → Bool) (e : DbEntry) (db : List DbEntry) (key : L
 found_first p e db key up s c = by c
   where
     is : key ≡ e.key
-    is = same-is key e.key s
+    is = same_text-is key e.key s
 
     first : IsBefore key db
     first = rw is up.0
@@ -89,12 +91,8 @@ found_key p (e ∷ db) key up = found_key_at p e db key up (found_key p db key u
 abbrev pub among : List (List ℕ) → List ℕ → Bool
 among ks q = list_any (λ t. same_text q t) ks
 
-or_false : (b : Bool) → b ≡ (b || false)
-or_false true = refl
-or_false false = refl
-
 found_keys : (p : List ℕ → Bool) (db : List DbEntry) (ks : List (List ℕ)) → Ascends db → fold (with_key db) (only p db) ks ≡ only (λ q. p q || among ks q) db
-found_keys p db [] up = ap (λ (f : List ℕ → Bool). only f db) (λ i q. or_false (p q) i)
+found_keys p db [] up = ap (λ (f : List ℕ → Bool). only f db) (λ i q. sym (or_false (p q)) i)
 found_keys p db (k ∷ ks) up =
     ap (λ (d : List DbEntry). fold (with_key db) d ks) (found_key p db k up)
     ∙ found_keys (more p k) db ks up

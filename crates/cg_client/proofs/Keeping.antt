@@ -1,14 +1,14 @@
 -- A mark keeps all that is known within the limits.
-use Rattle.std.specs.Prelude.{◌≡◌, ◌≤◌, ◌<◌, ◌^◌, ℕ, zero, suc, ◌==◌, nat_le, nat_lt, Bool, true, false, not, ◌&&◌, List, [], ◌∷◌, ◌++◌, filter, Option, Some, None, Result, Ok, Err, IfSome, MatchOption, OnOk, OnErr, if◌then◌else◌}
+use Rattle.std.specs.Prelude.{◌≡◌, ℕ, zero, suc, ◌==◌, nat_le, nat_lt, Bool, true, false, not, ◌&&◌, List, [], ◌∷◌, ◌++◌, filter, Option, Some, None, Result, Ok, Err, IfSome, MatchOption, OnOk, OnErr, if◌then◌else◌}
 use Rattle.std.proofs.Common.{subst, sym, inl, inr, arith}
 use Rattle.std.proofs.lemmas.Bool.{cases_Bool, or_cases, and_parts, eqb-true}
 use Rattle.cg_base.specs.declared.action_id.ActionId.{ActionId}
 use Rattle.cg_base.specs.Ids.{same_id, id_before, has_name}
 use Rattle.cg_base.specs.Lists.{at_place, Each}
-use Rattle.cg_base.specs.Cuts.{index_in, with_top, raise}
+use Rattle.cg_base.specs.Cuts.{index_in}
 use Rattle.cg_action.specs.declared.action.Action.{Action}
 use Rattle.cg_action.specs.ActionLimits.{IsAction, IsActionId}
-use Rattle.cg_records.specs.Limits.{IsIndex, IsName}
+use Rattle.cg_records.specs.Limits.{IsName}
 use Rattle.cg_queue.specs.Queue.{QueueView, Marking, Marks, Gaps, with_red, marked_red, with_yellow, and_yellow, marked_yellow, green_count, action_of, names_of, placed_red, placed_green}
 use Rattle.cg_queue.specs.Answers.{marked_green}
 use Rattle.cg_queue.specs.declared.mark.Mark.{Mark}
@@ -18,6 +18,7 @@ use Rattle.cg_queue.specs.Answers.{Answers, AreReds}
 use Rattle.cg_client.specs.Kept.{AreKept}
 use Rattle.cg_base.specs.EachLaws.{Each-get, Each-append}
 use Rattle.cg_base.specs.FindLaws.{found_each}
+use Rattle.cg_records.specs.CutLaws.{raise-indexed}
 
 pub Each-filter : {X : Type 0} (test : X → Bool) (P : X → Type 0) (xs : List X) → Each P xs → Each P (filter test xs)
 Each-filter test P [] each = tt
@@ -36,26 +37,6 @@ Each-with_red P (b ∷ reds) a here all = elim (cases_Bool (id_before a.id b.id)
 -- ---- cuts
 
 -- each index of a cut is within its limits
-abbrev Indexed : List ActionId → Type 0
-Indexed cut = Each (λ top. IsIndex top.index) cut
-
-indexed_if : (b : Bool) (c d : List ActionId) → Indexed c → Indexed d → Indexed (if b then c else d)
-indexed_if true c d kc kd = kc
-indexed_if false c d kc kd = kd
-
-with_top-indexed : (cut : List ActionId) (id : ActionId) → IsActionId id → Indexed cut → Indexed (with_top cut id)
-with_top-indexed [] id is all = ((is.from_one, is.below), tt)
-with_top-indexed (top ∷ cut) id is all =
-    let from_one : 1 ≤ top.index = all.0.0 in
-    let below : top.index < 2 ^ 63 = all.0.1 in
-    let is_from_one : 1 ≤ id.index = is.from_one in
-    let is_below : id.index < 2 ^ 63 = is.below in
-    indexed_if (top.creator == id.creator) _ _ ((omega arith, omega arith), all.1)
-    (indexed_if (nat_lt id.creator top.creator) _ _ ((is_from_one, is_below), all) (all.0, with_top-indexed cut id is all.1))
-
-raise-indexed : (cut : List ActionId) (id : ActionId) → IsActionId id → Indexed cut → Indexed (raise cut id)
-raise-indexed cut id is all = indexed_if (id.index == 0) _ _ all (with_top-indexed cut id is all)
-
 -- ---- names
 
 named : (reds : List Action) (id : ActionId) → Each IsAction reds → has_name (names_of reds) id ≡ true → IsName id
@@ -90,7 +71,7 @@ placed_red-kept q a kept here =
       greens = kept.greens;
       reds = Each-with_red IsAction q.reds a here kept.reds;
       green_cut = kept.green_cut;
-      red_cut = raise-indexed q.red_cut a.id here.id kept.red_cut;
+      red_cut = raise-indexed q.red_cut a.id here.id.below kept.red_cut;
       yellow = kept.yellow;
     }
 
@@ -99,8 +80,8 @@ placed_green-kept q a kept here =
     record {
       greens = Each-append IsAction q.greens (a ∷ []) kept.greens (here, tt);
       reds = Each-filter (λ b. not (same_id b.id a.id)) IsAction q.reds kept.reds;
-      green_cut = raise-indexed q.green_cut a.id here.id kept.green_cut;
-      red_cut = raise-indexed q.red_cut a.id here.id kept.red_cut;
+      green_cut = raise-indexed q.green_cut a.id here.id.below kept.green_cut;
+      red_cut = raise-indexed q.red_cut a.id here.id.below kept.red_cut;
       yellow = Each-filter (λ id. not (same_id id a.id)) IsName q.yellow kept.yellow;
     }
 

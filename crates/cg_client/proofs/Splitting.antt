@@ -6,9 +6,10 @@ use Rattle.cg_action.specs.declared.value.Value.{Value}
 use Rattle.cg_action.specs.declared.entry.DbEntry.{DbEntry}
 use Rattle.cg_db.specs.Map.{value_of, put, remove}
 use Rattle.cg_db.specs.Ascending.{IsBefore, Ascends}
-use Rattle.cg_db.specs.TextOrderLaws.{same-is, same-sym, before-apart, before-back}
+use Rattle.cg_db.specs.TextOrderLaws.{same-sym, before-apart, before-back}
 use Rattle.cg_db.specs.EntryLaws.{IsBefore-through}
 use Rattle.cg_db.specs.AscendingLaws.{entry, put_at, IsBefore-filter, Ascends-filter}
+use Rattle.cg_text.specs.OrderLaws.{same_text-is}
 
 -- the entries at the keys that a test chooses
 abbrev pub only : (List ℕ → Bool) → List DbEntry → List DbEntry
@@ -31,7 +32,7 @@ put-first (e ∷ db) key value first = rw (before-apart key e.key first, first) 
 
 -- a test answers two texts that are one alike
 alike : (p : List ℕ → Bool) (q t : List ℕ) (b c : Bool) → same_text q t ≡ true → p q ≡ b → p t ≡ c → b ≡ c
-alike p q t b c same at_q at_t = sym at_q ∙ ap p (same-is q t same) ∙ at_t
+alike p q t b c same at_q at_t = sym at_q ∙ ap p (same_text-is q t same) ∙ at_t
 
 only-put_at : (p : List ℕ → Bool) (e : DbEntry) (db : List DbEntry) (key : List ℕ) (value : Value) → p key ≡ true → Ascends (e ∷ db) → only p (put db key value) ≡ put (only p db) key value
     → (s : Bool) → same_text key e.key ≡ s → (b : Bool) → text_before key e.key ≡ b → (c : Bool) → p e.key ≡ c

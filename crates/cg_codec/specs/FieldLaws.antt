@@ -223,7 +223,7 @@ field_optional {X = X} Has spelling item truths field =
 
 -- ---- all of the bytes
 
-ended-ok : {X : Type 0} (r : Result (X × Unread) CodecFault) (x : X) → ended r ≡ Ok x →
+pub ended-ok : {X : Type 0} (r : Result (X × Unread) CodecFault) (x : X) → ended r ≡ Ok x →
     (new : Unread) × (r ≡ Ok (x, new)) × (new.bytes ≡ [])
 ended-ok {X = X} (Ok p) x e =
     let g = last (eqb (length p.1.bytes) 0) p.0 x p.1.at e in

@@ -8,3 +8,4 @@ pub mod PlainLaws
 pub mod ItemLaws
 pub mod ListLaws
 pub mod ShapeLaws
+pub mod FaultLaws

@@ -232,3 +232,7 @@ text_field max small = record {
       subst (λ (p : List ℕ × Unread). Found (λ t. IsUtf8 t × (length t ≤ max)) text p.0 old p.1)
       (same_pair (take n mid.bytes, behind n mid) (t, new) g.2) found;
 }
+
+pub length-number32 : (n : ℕ) → length (number32 n) ≡ 4
+unfolding number32
+length-number32 n = refl

@@ -13,17 +13,17 @@ use Rattle.cg_action.specs.declared.effect.Effect.TheVariants.{Done, Aborted, Ra
 use Rattle.cg_db.specs.Map.{value_of, put}
 use Rattle.cg_db.specs.Ascending.{Ascends}
 use Rattle.cg_db.specs.Apply.{Ran, Changed, Aborts, Overflows, number_of, run_command, run_commands}
-use Rattle.cg_db.specs.TextOrderLaws.{same-is}
 use Rattle.cg_db.specs.AscendingLaws.{Ascends-put}
 use Rattle.cg_db.proofs.MapLemmas.{value_of-put, same_at_each_key}
 use Rattle.cg_db.proofs.PlanLemmas.{applied, fits_i64-from, fits_i64-to, unfit}
+use Rattle.cg_text.specs.OrderLaws.{same_text-is}
 
 -- a value that the key has already
 put-had : (db : List DbEntry) (key : List ℕ) (value : Value) → Ascends db → value_of db key ≡ Some value → put db key value ≡ db
 put-had db key value up had = same_at_each_key (put db key value) db (Ascends-put db key value up) up (λ q. value_of-put db key value q ∙ at q (same_text q key) refl)
   where
     at : (q : List ℕ) (same : Bool) → same_text q key ≡ same → cond same (Some value) (value_of db q) ≡ value_of db q
-    at q true e = sym (ap (λ k. value_of db k) (same-is q key e) ∙ had)
+    at q true e = sym (ap (λ k. value_of db k) (same_text-is q key e) ∙ had)
     at q false e = refl
 
 -- where a command leads, it leads alone

@@ -1,6 +1,6 @@
 -- The keys of a database, and what a sort makes of the keys of a map.
-use Rattle.std.proofs.Common.{◌≡◌, ℕ, zero, suc, ◌+◌, ◌<◌, Bool, true, false, cond, ◌&&◌, ◌||◌, List, [], ◌∷◌, ◌++◌, length, drop, refl, sym, ap, ◌∙◌, add-one, arith}
-use Rattle.std.specs.Prelude.{Option, Some, None, is_some, filter, flat_map, pos, IsSorted, IsPermutation}
+use Rattle.std.proofs.Common.{◌≡◌, ℕ, suc, ◌+◌, ◌<◌, Bool, true, false, cond, ◌&&◌, ◌||◌, List, [], ◌∷◌, ◌++◌, length, drop, refl, sym, ap, ◌∙◌, add-one, arith}
+use Rattle.std.specs.Prelude.{Option, Some, None, is_some, filter, flat_map, IsSorted, IsPermutation}
 use Rattle.std.specs.Str.{bytes_eq}
 use Rattle.std.proofs.lemmas.List.{append-nil}
 use Rattle.std.specs.List.{slice_get, list_any, IsDistinct, AllByRecursion}
@@ -11,30 +11,19 @@ use Rattle.std.proofs.lemmas.Map.Keys.{IsDistinct-head, IsDistinct-tail, IsDisti
 use Rattle.std.proofs.lemmas.List.Sorted.{list_any-IsPermutation}
 use Rattle.cg_text.specs.Order.{same_text, text_before, begins_with}
 use Rattle.cg_action.specs.declared.value.Value.{Value}
-use Rattle.cg_action.specs.declared.value.Value.TheVariants.{Int}
 use Rattle.cg_action.specs.declared.entry.DbEntry.{DbEntry}
 use Rattle.cg_db.specs.Map.{value_of, put, keys}
 use Rattle.cg_db.specs.Ascending.{IsBefore, Ascends}
 use Rattle.cg_db.specs.View.{of_entries, entry_at}
-use Rattle.cg_db.specs.TextOrderLaws.{same-is, same-sym, before-other}
-use Rattle.cg_db.specs.EntryLaws.{found_all}
-use Rattle.cg_db.specs.AscendingLaws.{entry, Ascends-filter}
-use Rattle.cg_db.proofs.MapLemmas.{some, same_at_each_key, length-put}
+use Rattle.cg_db.specs.TextOrderLaws.{same-sym, before-other}
+use Rattle.cg_db.specs.EntryLaws.{found_all, some}
+use Rattle.cg_db.specs.AscendingLaws.{entry, Ascends-filter, mark, as_db, keys-as_db}
+use Rattle.cg_db.proofs.MapLemmas.{same_at_each_key, length-put}
 use Rattle.cg_db.proofs.ViewLemmas.{Ascends-of_entries, value_of-of_entries, same_flipped}
 use Rattle.cg_base.specs.ListLaws.{drop-at}
+use Rattle.cg_text.specs.OrderLaws.{same_text-is}
 
 -- ---- texts as a database, in which each has one and the same value
-
-abbrev mark : Value
-mark = Int (pos 0)
-
-abbrev as_db : List (List ℕ) → List DbEntry
-as_db [] = []
-as_db (t ∷ ts) = entry t mark ∷ as_db ts
-
-keys-as_db : (ts : List (List ℕ)) → keys (as_db ts) ≡ ts
-keys-as_db [] = refl
-keys-as_db (t ∷ ts) = ap (λ us. t ∷ us) (keys-as_db ts)
 
 abbrev is_in : List ℕ → List (List ℕ) → Bool
 is_in q ts = list_any (same_text q) ts
@@ -75,9 +64,9 @@ same_members ts us up down same =
 
 is_in-kept : (p : List ℕ → Bool) (q t : List ℕ) (us : List (List ℕ)) (rest : Bool) → is_in q us ≡ (p q && rest) → (b : Bool) → p t ≡ b → (s : Bool) → same_text q t ≡ s
     → is_in q (cond b (t ∷ us) us) ≡ (p q && (s || rest))
-is_in-kept p q t us rest e true pt true s = let both : p q ≡ true = ap p (same-is q t s) ∙ pt in rw (s, both) refl
+is_in-kept p q t us rest e true pt true s = let both : p q ≡ true = ap p (same_text-is q t s) ∙ pt in rw (s, both) refl
 is_in-kept p q t us rest e true pt false s = rw (s, e) refl
-is_in-kept p q t us rest e false pt true s = let both : p q ≡ false = ap p (same-is q t s) ∙ pt in rw both at e ∙ (rw both refl)
+is_in-kept p q t us rest e false pt true s = let both : p q ≡ false = ap p (same_text-is q t s) ∙ pt in rw both at e ∙ (rw both refl)
 is_in-kept p q t us rest e false pt false s = e
 
 is_in-filter : (p : List ℕ → Bool) (ts : List (List ℕ)) (q : List ℕ) → is_in q (filter p ts) ≡ (p q && is_in q ts)

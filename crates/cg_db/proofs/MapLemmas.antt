@@ -6,14 +6,13 @@ use Rattle.cg_action.specs.declared.value.Value.{Value}
 use Rattle.cg_action.specs.declared.entry.DbEntry.{DbEntry}
 use Rattle.cg_db.specs.Map.{value_of, put, remove}
 use Rattle.cg_db.specs.Ascending.{Ascends}
-use Rattle.cg_db.specs.TextOrderLaws.{same-is, same-refl, before-other}
+use Rattle.cg_db.specs.TextOrderLaws.{same-refl, before-other}
 use Rattle.cg_db.specs.AscendingLaws.{entry, put_at, value_of-before}
+use Rattle.cg_text.specs.OrderLaws.{same_text-is}
+use Rattle.cg_db.specs.EntryLaws.{some, same_some}
 
 abbrev pub no_value : Option Value
 no_value = None
-
-abbrev pub some : Value → Option Value
-some v = Some v
 
 pub some≢none : (v : Value) → some v ≡ no_value → ⊥
 some≢none v e = cc
@@ -27,7 +26,7 @@ twice false x y z = refl
 -- two tests of a text against two different ones, in either order
 either_by : (k l q : List ℕ) (v w rest : Option Value) → same_text l k ≡ false → (b : Bool) → same_text q k ≡ b → (c : Bool) → same_text q l ≡ c → cond b v (cond c w rest) ≡ cond c w (cond b v rest)
 either_by k l q v w rest differ true f true g =
-    absurd (let both : l ≡ k = sym (same-is q l g) ∙ same-is q k f in let yes : same_text l k ≡ true = rw both (same-refl k) in true≢false (sym yes ∙ differ))
+    absurd (let both : l ≡ k = sym (same_text-is q l g) ∙ same_text-is q k f in let yes : same_text l k ≡ true = rw both (same-refl k) in true≢false (sym yes ∙ differ))
 either_by k l q v w rest differ true f false g = refl
 either_by k l q v w rest differ false f true g = refl
 either_by k l q v w rest differ false f false g = refl
@@ -37,7 +36,7 @@ either k l q v w rest differ = either_by k l q v w rest differ (same_text q k) r
 
 value_of-put_at : (e : DbEntry) (db : List DbEntry) (key : List ℕ) (value : Value) (q : List ℕ) → value_of (put db key value) q ≡ cond (same_text q key) (Some value) (value_of db q)
     → (same before : Bool) → same_text key e.key ≡ same → value_of (put_at same before e db key value) q ≡ cond (same_text q key) (Some value) (cond (same_text q e.key) (Some e.value) (value_of db q))
-value_of-put_at e db key value q rest true before s = let is = same-is key e.key s in rw is (twice (same_text q e.key) (Some value) (Some e.value) (value_of db q))
+value_of-put_at e db key value q rest true before s = let is = same_text-is key e.key s in rw is (twice (same_text q e.key) (Some value) (Some e.value) (value_of db q))
 value_of-put_at e db key value q rest false true s = refl
 value_of-put_at e db key value q rest false false s = rw rest (either e.key key q (Some e.value) (Some value) (value_of db q) s)
 
@@ -51,7 +50,7 @@ none_either false = refl
 
 value_of-kept : (e : DbEntry) (db : List DbEntry) (key q : List ℕ) → value_of (remove db key) q ≡ cond (same_text q key) None (value_of db q)
     → (same : Bool) → same_text key e.key ≡ same → value_of (cond (not same) (e ∷ remove db key) (remove db key)) q ≡ cond (same_text q key) None (cond (same_text q e.key) (Some e.value) (value_of db q))
-value_of-kept e db key q rest true s = let is = same-is key e.key s in rest ∙ (rw is (twice (same_text q e.key) None (Some e.value) (value_of db q)))
+value_of-kept e db key q rest true s = let is = same_text-is key e.key s in rest ∙ (rw is (twice (same_text q e.key) None (Some e.value) (value_of db q)))
 value_of-kept e db key q rest false s = rw rest (either e.key key q (Some e.value) None (value_of db q) s)
 
 pub value_of-remove : (db : List DbEntry) (key q : List ℕ) → value_of (remove db key) q ≡ cond (same_text q key) None (value_of db q)
@@ -64,14 +63,11 @@ value_of-remove (e ∷ db) key q = value_of-kept e db key q (value_of-remove db 
 first_is : (x : DbEntry) (xs : List DbEntry) → value_of (x ∷ xs) x.key ≡ Some x.value
 first_is x xs = rw (same-refl x.key) refl
 
-value_from : (v w : Value) → some v ≡ some w → v ≡ w
-value_from v w e = cc
-
 -- behind a first entry with one key, the values are the same too
 tail_at : (x y : DbEntry) (xs ys : List DbEntry) → Ascends (x ∷ xs) → Ascends (y ∷ ys) → x.key ≡ y.key → (q : List ℕ) → value_of (x ∷ xs) q ≡ value_of (y ∷ ys) q
     → (c : Bool) → same_text q x.key ≡ c → value_of xs q ≡ value_of ys q
 tail_at x y xs ys up down key q same true e =
-    let is : q ≡ x.key = same-is q x.key e in
+    let is : q ≡ x.key = same_text-is q x.key e in
     let mine : value_of xs q ≡ None = rw is (value_of-before xs x.key up.0 up.1) in
     let yours : value_of ys q ≡ None = rw (is, key) (value_of-before ys y.key down.0 down.1) in
     mine ∙ sym yours
@@ -83,9 +79,9 @@ tail_at x y xs ys up down key q same false e =
 same_heads : (x y : DbEntry) (xs ys : List DbEntry) → Ascends (x ∷ xs) → Ascends (y ∷ ys) → ((q : List ℕ) → value_of (x ∷ xs) q ≡ value_of (y ∷ ys) q)
     → (((q : List ℕ) → value_of xs q ≡ value_of ys q) → xs ≡ ys) → (s : Bool) → same_text x.key y.key ≡ s → (b : Bool) → text_before x.key y.key ≡ b → x ∷ xs ≡ y ∷ ys
 same_heads x y xs ys up down same rest true s b before =
-    let key : x.key ≡ y.key = same-is x.key y.key s in
+    let key : x.key ≡ y.key = same_text-is x.key y.key s in
     let there : value_of (y ∷ ys) x.key ≡ Some y.value = rw key (first_is y ys) in
-    let value : x.value ≡ y.value = value_from x.value y.value (sym (first_is x xs) ∙ same x.key ∙ there) in
+    let value : x.value ≡ y.value = same_some x.value y.value (sym (first_is x xs) ∙ same x.key ∙ there) in
     let head : x ≡ y = ap (λ z. entry z x.value) key ∙ ap (λ z. entry y.key z) value in
     ap (λ z. z ∷ xs) head ∙ ap (λ zs. y ∷ zs) (rest (λ q. tail_at x y xs ys up down key q (same q) (same_text q x.key) refl))
 same_heads x y xs ys up down same rest false s true before =

@@ -1,6 +1,6 @@
 -- Commands one after the other, and changes one after the other.
 use Rattle.std.proofs.Common.{◌≡◌, ℕ, suc, ◌+◌, ◌<◌, ◌≤◌, Bool, true, false, cond, List, [], ◌∷◌, ◌++◌, length, get_or, take, drop, refl, sym, ap, ◌∙◌, ◌^◌, add-one, drop-cons, length-drop, arith}
-use Rattle.std.specs.Prelude.{Option, Result, Ok, Err, OnOk, IsOk, ℤ, pos, negsuc, FitsSigned}
+use Rattle.std.specs.Prelude.{Option, ℤ, pos, negsuc, FitsSigned}
 use Rattle.std.specs.Int.{w64}
 use Rattle.std.proofs.Math.Seq.{take-suc}
 use Rattle.std.proofs.lemmas.Bool.{lt-ltb, ltb-true}
@@ -20,10 +20,6 @@ use Rattle.cg_db.specs.Plan.{set_option, changed, with_changes, left_by}
 use Rattle.cg_db.proofs.ViewLemmas.{value_of-set}
 
 -- what a call that succeeded ensures
-pub OnOk_then : {T E : Type 0} (r : Result T E) {P : Type 0} → IsOk r → OnOk r P → P
-OnOk_then (Ok x) ok p = p
-OnOk_then (Err e) ok p = absurd cc
-
 -- ---- commands
 
 run_one : (old db : List DbEntry) (i : ℕ) (cmds : List Cmd) (cmd : Cmd) → i < length cmds → get_or cmds i cmd ≡ cmd

@@ -1,13 +1,15 @@
 -- That the entries ascend is kept where a key is set and where some of them are chosen.
-use Rattle.std.proofs.Common.{◌≡◌, ℕ, Bool, true, false, cond, List, [], ◌∷◌, refl}
-use Rattle.std.specs.Prelude.{None, filter}
+use Rattle.std.proofs.Common.{◌≡◌, ℕ, Bool, true, false, cond, List, [], ◌∷◌, refl, ap}
+use Rattle.std.specs.Prelude.{None, filter, pos}
 use Rattle.cg_text.specs.Order.{same_text, text_before}
 use Rattle.cg_action.specs.declared.value.Value.{Value}
 use Rattle.cg_action.specs.declared.entry.DbEntry.{DbEntry}
-use Rattle.cg_db.specs.Map.{value_of, put}
+use Rattle.cg_db.specs.Map.{value_of, put, keys}
 use Rattle.cg_db.specs.Ascending.{IsBefore, Ascends}
-use Rattle.cg_db.specs.TextOrderLaws.{same-is, before-apart, before-other}
+use Rattle.cg_db.specs.TextOrderLaws.{before-apart, before-other}
 use Rattle.cg_db.specs.EntryLaws.{IsBefore-through}
+use Rattle.cg_text.specs.OrderLaws.{same_text-is}
+use Rattle.cg_action.specs.declared.value.Value.TheVariants.{Int}
 
 abbrev pub entry : List ℕ → Value → DbEntry
 entry key value = record { key = key; value = value }
@@ -31,7 +33,7 @@ Ascends-put_at : (e : DbEntry) (db : List DbEntry) (key : List ℕ) (value : Val
     Ascends (put db key value)
     → (same before : Bool) → same_text key e.key ≡ same → text_before key e.key ≡ before →
     Ascends (put_at same before e db key value)
-Ascends-put_at e db key value up rest true before s b = let is = same-is key e.key s in (rw is up.0, up.1)
+Ascends-put_at e db key value up rest true before s b = let is = same_text-is key e.key s in (rw is up.0, up.1)
 Ascends-put_at e db key value up rest false true s b = (b, up)
 Ascends-put_at e db key value up rest false false s b =
     (IsBefore-put db e.key key value up.0 (before-other key e.key s b), rest)
@@ -68,3 +70,18 @@ pub Ascends-filter : (p : DbEntry → Bool) (db : List DbEntry) → Ascends db �
 Ascends-filter p [] up = tt
 Ascends-filter p (e ∷ db) up =
     Ascends-kept e (filter p db) (IsBefore-filter p db e.key up.0 up.1) (Ascends-filter p db up.1) (p e)
+
+abbrev pub EachBefore : List ℕ → List DbEntry → Type 0
+EachBefore key [] = Unit {0}
+EachBefore key (e ∷ db) = (text_before e.key key ≡ true) × EachBefore key db
+
+abbrev pub mark : Value
+mark = Int (pos 0)
+
+abbrev pub as_db : List (List ℕ) → List DbEntry
+as_db [] = []
+as_db (t ∷ ts) = entry t mark ∷ as_db ts
+
+pub keys-as_db : (ts : List (List ℕ)) → keys (as_db ts) ≡ ts
+keys-as_db [] = refl
+keys-as_db (t ∷ ts) = ap (λ us. t ∷ us) (keys-as_db ts)

@@ -1,5 +1,5 @@
 -- What is found at each key of a database: its entries.
-use Rattle.std.proofs.Common.{◌≡◌, ℕ, true, false, List, [], ◌∷◌, refl}
+use Rattle.std.proofs.Common.{◌≡◌, ℕ, true, false, List, [], ◌∷◌, refl, Option}
 use Rattle.std.specs.Prelude.{Some, flat_map}
 use Rattle.cg_text.specs.Order.{same_text, text_before}
 use Rattle.cg_action.specs.declared.entry.DbEntry.{DbEntry}
@@ -7,6 +7,7 @@ use Rattle.cg_db.specs.Map.{value_of, keys}
 use Rattle.cg_db.specs.Ascending.{IsBefore, Ascends}
 use Rattle.cg_db.specs.View.{entry_at}
 use Rattle.cg_db.specs.TextOrderLaws.{same-refl, same-sym, before-trans, before-apart}
+use Rattle.cg_action.specs.declared.value.Value.{Value}
 
 -- what is before a text is before those behind it
 pub IsBefore-through : (low mid : List ℕ) (db : List DbEntry) → text_before low mid ≡ true →
@@ -38,3 +39,9 @@ found_each db (e ∷ es) has = rw (has.0, found_each db es has.1) refl
 
 pub found_all : (db : List DbEntry) → Ascends db → flat_map (λ key. entry_at key (value_of db key)) (keys db) ≡ db
 found_all db up = found_each db db (Has-itself db up)
+
+abbrev pub some : Value → Option Value
+some v = Some v
+
+pub same_some : (v w : Value) → some v ≡ some w → v ≡ w
+same_some v w e = cc

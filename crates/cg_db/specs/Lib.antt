@@ -8,3 +8,4 @@ pub mod Limits
 pub mod TextOrderLaws
 pub mod EntryLaws
 pub mod AscendingLaws
+pub mod FoldLaws

@@ -6,6 +6,7 @@ use Rattle.std.specs.Ordering.{is_lt, is_eq, ordering_reverse, nat_cmp}
 use Rattle.std.specs.Cmp.Lexicographic.{slice_cmp, nat_list_cmp_total, texts_ties}
 use Rattle.std.proofs.lemmas.Slice.Eq.{bytes_eq-Decides}
 use Rattle.cg_text.specs.Order.{same_text, text_before}
+use Rattle.cg_text.specs.OrderLaws.{same_text-is}
 
 abbrev compared : List ℕ → List ℕ → Ordering
 compared = slice_cmp nat_cmp
@@ -17,19 +18,16 @@ less_from Greater e = absurd cc
 
 -- ---- the two are one
 
-pub same-is : (s t : List ℕ) → same_text s t ≡ true → s ≡ t
-same-is s t e = (bytes_eq-Decides s t).0 e
-
 pub same-refl : (s : List ℕ) → same_text s s ≡ true
 same-refl s = (bytes_eq-Decides s s).1 refl
 
 same-sym_by : (s t : List ℕ) → same_text s t ≡ false → (c : Bool) → same_text t s ≡ c → c ≡ false
-same-sym_by s t e true f = absurd (let yes : same_text s t ≡ true = rw (same-is t s f) (same-refl s) in
+same-sym_by s t e true f = absurd (let yes : same_text s t ≡ true = rw (same_text-is t s f) (same-refl s) in
     true≢false (sym yes ∙ e))
 same-sym_by s t e false f = refl
 
 pub same-sym : (s t : List ℕ) (b : Bool) → same_text s t ≡ b → same_text t s ≡ b
-same-sym s t true e = rw (same-is s t e) (same-refl t)
+same-sym s t true e = rw (same_text-is s t e) (same-refl t)
 same-sym s t false e = same-sym_by s t e (same_text t s) refl
 
 -- ---- one is before the other

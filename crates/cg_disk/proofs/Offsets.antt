@@ -1,18 +1,12 @@
 -- The unsynced offsets of a side, in whatever order its writes are kept.
-use Rattle.std.proofs.Common.{◌≡◌, ℕ, suc, ◌+◌, ◌≤◌, ◌<◌, All, Bool, true, false, ◌||◌, ◌&&◌, nat_le, nat_lt, List, [], ◌∷◌, ◌++◌, length, drop, reverse, refl, sym, ◌∙◌, ap, arith}
+use Rattle.std.proofs.Common.{◌≡◌, ℕ, suc, ◌+◌, ◌≤◌, ◌<◌, All, Bool, false, ◌||◌, ◌&&◌, nat_le, nat_lt, List, [], ◌∷◌, ◌++◌, length, drop, reverse, refl, sym, ◌∙◌, ap, arith}
 use Rattle.std.specs.Bool.{if◌then◌else◌}
 use Rattle.std.proofs.lemmas.Bool.Decides.{nat_tests}
 use Rattle.std.proofs.lemmas.List.{reverse-append, drop_more}
 use Rattle.cg_disk.specs.State.{SideState, is_unsynced, unsynced_from}
 use Rattle.cg_disk.specs.Undo.{ranges}
 use Rattle.cg_disk.specs.declared.written.Written.{Written}
-use Rattle.cg_base.specs.BoolLaws.{or_false, or_assoc}
-
-or_comm : (a b : Bool) → (a || b) ≡ (b || a)
-or_comm true true = refl
-or_comm true false = refl
-or_comm false true = refl
-or_comm false false = refl
+use Rattle.cg_base.specs.BoolLaws.{or_false, or_assoc, or_comm}
 
 abbrev in_write : Written → ℕ → Bool
 in_write x offset = nat_le x.offset offset && nat_lt offset (x.offset + x.count)

@@ -1,10 +1,7 @@
 -- A change as a field, by its four parts.
-use Rattle.std.proofs.Common.{◌≡◌, ◌≢◌, ℕ, List, ◌++◌, Result, Ok, Err, refl}
-use Rattle.std.specs.Prelude.{Some}
+use Rattle.std.proofs.Common.{◌≡◌, ℕ, List, ◌++◌, Result, Ok, Err, refl}
 use Rattle.cg_base.specs.declared.action_id.ActionId.{ActionId}
 use Rattle.cg_codec.specs.declared.fault.CodecFault.{CodecFault}
-use Rattle.cg_codec.specs.declared.fault.CodecFault.TheVariants.{Short, Bad, Rest, NoMemory}
-use Rattle.cg_codec.specs.Fault.{codec_fault_number}
 use Rattle.cg_codec.specs.Fields.{list}
 use Rattle.cg_codec.specs.Reading.{Reading, ◌>>=◌, done, whole}
 use Rattle.cg_codec.specs.Taking.{Decodes}
@@ -23,7 +20,7 @@ use Rattle.cg_disk_records.specs.Change.{spelled_change}
 use Rattle.cg_disk_records.specs.Limits.{AreActions, IsChange}
 use Rattle.cg_disk_records.specs.Reading.{actions_reading, ids_reading, change_reading}
 use Rattle.cg_disk_records.specs.Laws.{Gives}
-use Rattle.cg_disk_records.proofs.ListFields.{AreIds, actions_field, ids_field}
+use Rattle.cg_disk_records.specs.ListLaws.{AreIds, actions_field, ids_field}
 use Rattle.cg_disk_records.specs.Following.{change_with}
 
 -- ---- what is spelled and read behind each part
@@ -83,10 +80,3 @@ whole-gives {X} Has spelling reading bytes (Err fault) field fits read = λ know
     let again : whole reading bytes ≡ Ok x = rw is (field.again x has) in
     let refused : whole reading bytes ≡ Err fault = read known in
     absurd cc
-
--- a fault that has a number is one of the bytes
-pub numbered : (fault : CodecFault) (n : ℕ) → codec_fault_number fault ≡ Some n → fault ≢ NoMemory
-numbered (Short at) n e = λ is. cc
-numbered (Bad at) n e = λ is. cc
-numbered (Rest at) n e = λ is. cc
-numbered NoMemory n e = absurd cc

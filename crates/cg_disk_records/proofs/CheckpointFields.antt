@@ -21,7 +21,7 @@ use Rattle.cg_disk_records.specs.declared.checkpoint.Checkpoint.{Checkpoint}
 use Rattle.cg_disk_records.specs.Checkpoint.{spelled_entry, spelled_reached, spelled_kept, spelled_parts}
 use Rattle.cg_disk_records.specs.Limits.{AreActions, AreMembers, IsReached, IsKept, IsDatabase, AreParts}
 use Rattle.cg_disk_records.specs.Reading.{actions_reading, members_reading, entries_reading, reached_reading, kept_reading, checkpoint_reading}
-use Rattle.cg_disk_records.proofs.ListFields.{actions_field}
+use Rattle.cg_disk_records.specs.ListLaws.{actions_field}
 use Rattle.cg_disk_records.proofs.ServerFields.{spelled_members, members_field}
 use Rattle.cg_disk_records.proofs.EntryFields.{entries_field}
 

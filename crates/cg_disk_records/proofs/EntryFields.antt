@@ -27,12 +27,13 @@ use Rattle.cg_db.specs.Map.{value_of, put, keys}
 use Rattle.cg_db.specs.Ascending.{IsBefore, Ascends}
 use Rattle.cg_db.specs.Limits.{IsEntry, AreEntries}
 use Rattle.cg_db.specs.View.{entry_at}
-use Rattle.cg_db.specs.EntryLaws.{found_all}
+use Rattle.cg_db.specs.EntryLaws.{found_all, same_some, some}
 use Rattle.cg_db.specs.TextOrderLaws.{same-sym, before-trans, before-back, before-apart}
 use Rattle.cg_base.specs.Lists.{Each}
 use Rattle.cg_disk_records.specs.Checkpoint.{spelled_entry}
 use Rattle.cg_disk_records.specs.Limits.{IsDatabase}
 use Rattle.cg_disk_records.specs.Reading.{last_key, key_behind_reading, entry_reading, entries_reading}
+use Rattle.cg_db.specs.AscendingLaws.{EachBefore, entry}
 
 -- ---- an entry
 
@@ -46,13 +47,10 @@ key_behind_field last = field_only IsKey text key_reading (text_before last) key
 abbrev FollowsEntry : List ℕ → DbEntry → Type 0
 FollowsEntry last e = FollowsKey last e.key × IsValue e.value
 
-abbrev pub entry_is : List ℕ → Value → DbEntry
-entry_is key value = record { key = key; value = value }
-
 entry_field : (last : List ℕ) → IsField (FollowsEntry last) spelled_entry (entry_reading last)
 unfolding spelled_entry entry_reading
 entry_field last =
-    field_two entry_is (λ e. e.key) (λ e. e.value) (FollowsKey last) IsValue text spelled_value (key_behind_reading last) value_reading (FollowsEntry last) spelled_entry
+    field_two entry (λ e. e.key) (λ e. e.value) (FollowsKey last) IsValue text spelled_value (key_behind_reading last) value_reading (FollowsEntry last) spelled_entry
     (key_behind_field last) value_field (λ e has. (has.0, has.1, refl, refl)) (λ key value k v. ((k, v), refl, refl))
 
 -- ---- entries
@@ -102,9 +100,9 @@ entries_field =
 entry-ok : (last : List ℕ) (e : DbEntry) (old new : Unread) → entry_reading last old ≡ Ok (e, new) → text_before last e.key ≡ true
 unfolding entry_reading key_behind_reading
 entry-ok last e old new read =
-    let first = go_on-ok (key_behind_reading last old) (λ key. value_reading >>= λ value. done (entry_is key value)) e new read in
-    let second = go_on-ok (value_reading first.1) (λ value. done (entry_is first.0 value)) e new first.3 in
-    let same = given (entry_is first.0 second.0) e second.1 new second.3 in
+    let first = go_on-ok (key_behind_reading last old) (λ key. value_reading >>= λ value. done (entry key value)) e new read in
+    let second = go_on-ok (value_reading first.1) (λ value. done (entry first.0 value)) e new first.3 in
+    let same = given (entry first.0 second.0) e second.1 new second.3 in
     let passed = passed-ok (text_before last) old.at (key_reading old) first.0 first.1 first.2 in
     rw (← same.0) passed.1
 
@@ -125,23 +123,19 @@ text-utf8 max t old new e =
 pub entry-utf8 : (last : List ℕ) (e : DbEntry) (old new : Unread) → entry_reading last old ≡ Ok (e, new) → IsUtf8 e.key
 unfolding entry_reading key_behind_reading key_reading
 entry-utf8 last e old new read =
-    let first = go_on-ok (key_behind_reading last old) (λ key. value_reading >>= λ value. done (entry_is key value)) e new read in
-    let second = go_on-ok (value_reading first.1) (λ value. done (entry_is first.0 value)) e new first.3 in
-    let same = given (entry_is first.0 second.0) e second.1 new second.3 in
+    let first = go_on-ok (key_behind_reading last old) (λ key. value_reading >>= λ value. done (entry key value)) e new read in
+    let second = go_on-ok (value_reading first.1) (λ value. done (entry first.0 value)) e new first.3 in
+    let same = given (entry first.0 second.0) e second.1 new second.3 in
     let passed = passed-ok (text_before last) old.at (key_reading old) first.0 first.1 first.2 in
     let key = passed-ok is_key old.at (take_text 64 old) first.0 first.1 passed.0 in
     rw (← same.0) (IsUtf8-from_is_utf8 first.0 (text-utf8 64 first.0 old first.1 key.0))
 
 -- each key comes before this one
-abbrev pub EachBefore : List ℕ → List DbEntry → Type 0
-EachBefore key [] = Unit {0}
-EachBefore key (e ∷ db) = (text_before e.key key ≡ true) × EachBefore key db
-
 EachBefore-push : (key : List ℕ) (db : List DbEntry) (e : DbEntry) → EachBefore key db → text_before e.key key ≡ true → EachBefore key (db ++ e ∷ [])
 EachBefore-push key [] e before one = (one, tt)
 EachBefore-push key (x ∷ db) e before one = (before.0, EachBefore-push key db e before.1 one)
 
-put-last : (db : List DbEntry) (key : List ℕ) (value : Value) → EachBefore key db → put db key value ≡ db ++ entry_is key value ∷ []
+put-last : (db : List DbEntry) (key : List ℕ) (value : Value) → EachBefore key db → put db key value ≡ db ++ entry key value ∷ []
 put-last [] key value before = refl
 put-last (e ∷ db) key value before =
     let other : same_text key e.key ≡ false = same-sym e.key key false (before-apart e.key key before.0) in
@@ -158,33 +152,24 @@ pub record EntriesSoFar (total : Result (List DbEntry × Unread) CodecFault) (co
   pub before : (key : List ℕ) → text_before last key ≡ true → EachBefore key db
 
 pub EntriesSoFar-more : (total : Result (List DbEntry × Unread) CodecFault) (count i : ℕ) (last : List ℕ) (db db' : List DbEntry) (left after : Unread) (key : List ℕ) (value : Value)
-    → EntriesSoFar total count i last db left → i < count → entry_reading last left ≡ Ok (entry_is key value, after) → db' ≡ put db key value → EntriesSoFar total count (i + 1) key db' after
+    → EntriesSoFar total count i last db left → i < count → entry_reading last left ≡ Ok (entry key value, after) → db' ≡ put db key value → EntriesSoFar total count (i + 1) key db' after
 EntriesSoFar-more total count i last db db' left after key value so_far lt read put_in =
-    let up = entry-ok last (entry_is key value) left after read in
-    let whole : db' ≡ db ++ entry_is key value ∷ [] = put_in ∙ put-last db key value (so_far.before key up) in
-    let one : entry_item db left ≡ Ok (entry_is key value, after) = rw so_far.last_is at read in
+    let up = entry-ok last (entry key value) left after read in
+    let whole : db' ≡ db ++ entry key value ∷ [] = put_in ∙ put-last db key value (so_far.before key up) in
+    let one : entry_item db left ≡ Ok (entry key value, after) = rw so_far.last_is at read in
     record {
-      rest = rw whole (items_go_on entry_item count i db left after (entry_is key value) total lt one so_far.rest);
-      last_is = rw whole (sym (key-last db (entry_is key value)));
-      before = λ k later. rw whole (EachBefore-push k db (entry_is key value) (so_far.before k (before-trans last key k up later)) later);
+      rest = rw whole (items_go_on entry_item count i db left after (entry key value) total lt one so_far.rest);
+      last_is = rw whole (sym (key-last db (entry key value)));
+      before = λ k later. rw whole (EachBefore-push k db (entry key value) (so_far.before k (before-trans last key k up later)) later);
     }
 
 -- ---- the loop that writes them
 
-some : Value → Option Value
-some v = Some v
-
-same_some : (v w : Value) → some v ≡ some w → v ≡ w
-unfolding some
-same_some v w e = cc
-
 within_at : (e : DbEntry) (found : Option Value) (v : Value) → IsValue e.value → (found ≡ Some v → IsValue v) → (b : Bool) → cond b (some e.value) found ≡ Some v → IsValue v
-unfolding some
 within_at e found v first others true is = rw (← same_some e.value v is) first
 within_at e found v first others false is = others is
 
 pub value-within : (db : List DbEntry) (key : List ℕ) (v : Value) → AreEntries db → value_of db key ≡ Some v → IsValue v
-unfolding some
 value-within [] key v entries found = absurd cc
 value-within (e ∷ db) key v entries found = within_at e (value_of db key) v entries.0.value (λ is. value-within db key v entries.1 is) (same_text key e.key) found
 

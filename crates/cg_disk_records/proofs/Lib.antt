@@ -1,5 +1,4 @@
 mod Steps
-mod ListFields
 mod ChangeFields
 mod ServerFields
 mod EntryFields

@@ -1,6 +1,5 @@
 -- Members as fields, and the loop that reads servers.
-use Rattle.std.proofs.Common.{◌≡◌, ◌≢◌, ℕ, suc, ◌<◌, ◌≤◌, List, [], ◌∷◌, ◌++◌, length, Ok, refl, ap, ◌∙◌, arith}
-use Rattle.std.proofs.lemmas.Bool.{ne_eqb, le-ltb}
+use Rattle.std.proofs.Common.{◌≡◌, ℕ, suc, ◌<◌, ◌≤◌, List, [], ◌∷◌, ◌++◌, length, Ok, refl, arith}
 use Rattle.std.proofs.lemmas.List.{length-map}
 use Rattle.cg_base.specs.Sets.{IsSet, Ascends}
 use Rattle.cg_base.specs.SetLaws.{length-Ascends}
@@ -14,17 +13,16 @@ use Rattle.cg_codec.specs.ShapeLaws.{field_two, field_three}
 use Rattle.cg_members.specs.declared.server.Server.{Server}
 use Rattle.cg_members.specs.Members.{Members}
 use Rattle.cg_members.specs.Listed.{server_ids, Count, AreServers}
-use Rattle.cg_members.specs.Servers.{with_server}
 use Rattle.cg_base.specs.Lists.{Each}
 use Rattle.cg_records.specs.Limits.{IsNumber}
 use Rattle.cg_records.specs.Bytes.{spelled_set}
 use Rattle.cg_records.specs.Reading.{take_number, take_id_above, take_weight, last_of, take_set}
-use Rattle.cg_records.specs.RecordLaws.{Follows, IsWeight, id_field, weight_field, number_field, set_field, map-push, last_of-push}
-use Rattle.cg_base.specs.AscendingLaws.{AllBelow}
+use Rattle.cg_records.specs.RecordLaws.{Follows, IsWeight, id_field, weight_field, number_field, set_field}
 use Rattle.cg_records.specs.PassedLaws.{id_above-ok, weight-ok}
 use Rattle.cg_disk_records.specs.Checkpoint.{spelled_server}
 use Rattle.cg_disk_records.specs.Limits.{AreMembers}
 use Rattle.cg_disk_records.specs.Reading.{server_reading, servers_reading, members_reading}
+use Rattle.cg_disk_records.specs.PartLaws.{server-last}
 
 -- ---- a server
 
@@ -46,9 +44,6 @@ server_field last =
 
 abbrev FollowsServers : List Server → Server → Type 0
 FollowsServers taken s = FollowsServer (last_of (server_ids taken)) s
-
-server-last : (taken : List Server) (s : Server) → last_of (server_ids (taken ++ s ∷ [])) ≡ s.id
-server-last taken s = ap last_of (map-push (λ (x : Server). x.id) taken s) ∙ last_of-push (server_ids taken) s.id
 
 abbrev HaveLines : List Server → Type 0
 HaveLines servers = Each (λ s. IsNumber s.line) servers
@@ -111,10 +106,3 @@ server-ok last s old new e =
     let third = go_on-ok (take_weight second.1) (λ weight. done (server_is first.0 second.0 weight)) s new second.3 in
     let same = given (server_is first.0 second.0 third.0) s third.1 new third.3 in
     rw (← same.0) record { above = (id_above-ok last first.0 old first.1 first.2).0; weight = weight-ok third.0 second.1 third.1 third.2 }
-
-pub with_server-last : (servers : List Server) (n : Server) → AllBelow n.id (server_ids servers) → with_server servers n ≡ servers ++ n ∷ []
-with_server-last [] n below = refl
-with_server-last (m ∷ servers) n below =
-    let lt : m.id < n.id = below.0 in
-    let apart : n.id ≢ m.id = λ e. omega arith in
-    rw (ne_eqb n.id m.id apart, le-ltb n.id m.id (omega arith), with_server-last servers n below.1) refl

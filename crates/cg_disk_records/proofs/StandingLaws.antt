@@ -23,6 +23,7 @@ use Rattle.cg_disk_records.proofs.ChangeFields.{change_whole}
 use Rattle.cg_disk_records.proofs.CheckpointFields.{parts_whole}
 use Rattle.cg_disk_records.proofs.Agreeing.{fits-agree, agree-fits, small-raised}
 use Rattle.cg_disk_records.specs.Agreeing.{Agrees}
+use Rattle.cg_disk_records.specs.PartLaws.{parts-within, same_saved}
 
 -- ---- changes
 
@@ -42,15 +43,6 @@ unfolding change_in
 change-found c bytes fits found = change-at c bytes (whole change_reading bytes) fits refl found
 
 -- ---- the parts of a state, and the state of parts
-
-pub parts-within : (generation : ℕ) (s : Stored) → IsNumber generation → IsStored s → AreParts (parts_of generation s)
-parts-within generation s small is = record {
-  generation = small;
-  stable = is.stable;
-  reached = record { count = is.queue.count; white = (let count = is.queue.count in omega arith); cut = is.queue.green_cut; members = is.members };
-  db = record { short = is.short; entries = is.entries; ascends = is.ascends };
-  kept = record { greens = is.queue.greens; reds = is.queue.reds; own = is.own };
-}
 
 stored-again : (generation : ℕ) (s : Stored) → Agrees s → stored_in s.id (parts_of generation s) ≡ s
 stored-again generation s agrees = λ i. record {
@@ -150,9 +142,6 @@ checkpoint-is id bytes p is are spelled fits = record {
   is = stored-within id p is are fits;
   agrees = fits.agrees;
 }
-
-same_saved : (x y : Saved) → cond true (Some x) None ≡ Some y → x ≡ y
-same_saved x y e = cc
 
 checkpoint-at : (id : ℕ) (bytes : List ℕ) (generation : ℕ) (s : Stored) (p : Checkpoint) → IsId id → AreParts p → bytes ≡ spelled_parts p → (b : Bool) → do_agree id p ≡ b
     → cond b (stands p.generation (stored_in id p)) None ≡ stands generation s → IsCheckpoint id bytes generation s

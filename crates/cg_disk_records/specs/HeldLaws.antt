@@ -10,7 +10,7 @@ use Rattle.cg_base.specs.Cuts.{index_in, raise}
 use Rattle.cg_action.specs.declared.action.Action.{Action}
 use Rattle.cg_members.specs.Laws.{NoLineAbove}
 use Rattle.cg_queue.specs.Queue.{names_of, with_red, without_action}
-use Rattle.cg_client.specs.Replica.{last_index}
+use Rattle.cg_client.specs.Replica.{last_index, Held, created}
 use Rattle.cg_client.specs.Marks.{after_first}
 use Rattle.cg_disk_records.specs.Holds.{run_on, cut_behind, Rising}
 use Rattle.cg_base.specs.IdLaws.{same_id-true, same_id-false, same_name}
@@ -19,6 +19,7 @@ use Rattle.cg_disk_records.specs.RunMarkLaws.{run-head, run-rest, lacks, run-oth
 use Rattle.std.specs.Option.{unwrap_or, option_to_list}
 use Rattle.cg_base.specs.Lists.{lesser, least_of, Each}
 use Rattle.cg_members.specs.declared.server.Server.{Server}
+use Rattle.cg_disk_records.specs.Stored.{whiten}
 
 pub names-with_red : (reds : List Action) (a : Action) → names_of (with_red reds a) ≡ inserted (names_of reds) a.id
 names-with_red [] a = refl
@@ -151,3 +152,7 @@ each-found Fine p (x ∷ xs) fine = elim (cases_Bool (p x)) [
   | inl here ↦ rw here (fine.0, tt)
   | inr other ↦ rw other (each-found Fine p xs fine.1)
 ]
+
+pub whitened-created : (h : Held) → created (whiten h) ≡ created h
+unfolding whiten
+whitened-created h = refl

@@ -23,3 +23,5 @@ pub mod Commit
 pub mod Crash
 pub mod Format
 pub mod Recovery
+pub mod ListLaws
+pub mod PartLaws

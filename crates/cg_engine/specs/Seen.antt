@@ -1,8 +1,7 @@
 -- A replica in memory, in whichever state it is, as the replica of the definitions.
-use Rattle.std.specs.Prelude.{Bool, true, false}
 use Rattle.cg_client.specs.declared.parts.DraftParts.{DraftParts}
 use Rattle.cg_client.specs.Drafts.{turn_with}
-use Rattle.cg_client.specs.Replica.{State, Replica, RegPrim, TransPrim, ExchangeStates, ExchangeActions, Construct, No, Un, NonPrim, Left}
+use Rattle.cg_client.specs.Replica.{Replica, RegPrim, TransPrim, ExchangeStates, ExchangeActions, Construct, No, Un, NonPrim, Left}
 use Rattle.cg_client.specs.Turn.{Turn}
 use Rattle.cg_client.specs.Whitening.{with_white}
 use Rattle.cg_engine.specs.declared.prim.InPrim.{InPrim}
@@ -41,8 +40,3 @@ turn_of r d = turn_with r.held r.state d
 -- its white count has risen
 abbrev pub white_in : Replica → Replica
 white_in r = record r { held = with_white r.held }
-
--- it has left
-abbrev pub has_left : State → Bool
-has_left Left = true
-has_left _ = false

@@ -9,8 +9,9 @@ ghost use Rattle.cg_client.specs.Requests.{is_creating};
 ghost use Rattle.cg_client.specs.Turn.{Turn};
 ghost use Rattle.cg_disk_records.specs.Stored.{recovery_turn};
 ghost use Rattle.cg_engine.specs.Inputs.{input_of, HasLimits};
-ghost use Rattle.cg_engine.specs.Seen.{turn_of, has_left};
+ghost use Rattle.cg_engine.specs.Seen.{turn_of};
 ghost use Rattle.cg_engine.specs.Ending.{fail_event, fail_start, fail_open, fail_keep};
+ghost use Rattle.cg_model.specs.World.{is_left_state};
 
 use crate::wreck::LastEvent;
 use crate::{Handled, Input, Recovered, Replica, Started, Wreck};
@@ -346,7 +347,7 @@ impl<D: Disk> Engine<D> {
 
     /// It has left. It takes no memory.
     pub fn left(&self) -> bool
-        ensures { result ≡ has_left self.now.replica.state }
+        ensures { result ≡ is_left_state self.now.replica.state }
     {
         self.replica.is_left()
     }

@@ -8,7 +8,8 @@ ghost use Rattle.cg_disk_records.specs.Stored.{recovery_turn};
 ghost use Rattle.cg_states.specs.Hearing.{hear_delivery};
 ghost use Rattle.cg_states.specs.ReplicaStep.{replica_step};
 ghost use Rattle.cg_engine.specs.Inputs.{input_of, taken, HasLimits};
-ghost use Rattle.cg_engine.specs.Seen.{turn_of, white_in, has_left};
+ghost use Rattle.cg_engine.specs.Seen.{turn_of, white_in};
+ghost use Rattle.cg_model.specs.World.{is_left_state};
 
 use crate::Input;
 use crate::member_state::{
@@ -173,7 +174,7 @@ impl Replica {
 
     /// It has left. It takes no memory.
     pub fn is_left(&self) -> bool
-        ensures { result ≡ has_left self.now.state }
+        ensures { result ≡ is_left_state self.now.state }
     {
         match &self.member {
             MemberState::Left(_) => true,

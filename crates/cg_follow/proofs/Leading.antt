@@ -6,20 +6,15 @@ use Rattle.std.proofs.lemmas.List.{length-append}
 use Rattle.std.proofs.lemmas.List.Sums.{fold-append}
 use Rattle.cg_disk_records.specs.Parts.{read_value}
 use Rattle.cg_action.specs.declared.action.Action.{Action}
-use Rattle.cg_action.specs.declared.entry.DbEntry.{DbEntry}
-use Rattle.cg_db.specs.Apply.{apply}
-use Rattle.cg_follow.specs.Followed.{Followed, fed, applied, IsFollowed, AreFed}
+use Rattle.cg_follow.specs.Followed.{Followed, fed, IsFollowed, AreFed}
 use Rattle.cg_follow.specs.Bytes.{spelled_follower, spelled_feed, follower_in, feed_in}
 use Rattle.cg_follow.specs.Stands.{led_by, follower_on}
 use Rattle.cg_follow.specs.Laws.{RecordsAreExact, RecordsLead, FeedsGoOn}
+use Rattle.cg_db.specs.FoldLaws.{fold_actions_from-append}
 
 -- the database behind two lists of actions
-applied-more : (db : List DbEntry) (first next : List Action) → applied db (first ++ next) ≡ applied
-    (applied db first) next
-applied-more db first next = fold-append (λ (d : List DbEntry) (a : Action). (apply d a).db) db first next
-
 pub feeds-go-on : FeedsGoOn
-feeds-go-on first next = rw (length-append first next, applied-more [] first next) refl
+feeds-go-on first next = rw (length-append first next, fold_actions_from-append [] first next) refl
 
 pub follower-in : RecordsAreExact → (f : Followed) → IsFollowed f → follower_in (spelled_follower f) ≡ Some f
 unfolding follower_in

@@ -26,6 +26,7 @@ use Rattle.cg_follow.specs.Line.{word_of, make_reading, feed_reading, stop_readi
 use Rattle.cg_follow.specs.Print.{line_of}
 use Rattle.cg_follow.specs.LineLaws.{IsFollowEvent, ReadsAs, ExactLines}
 use Rattle.cg_base.specs.ListLaws.{same_rest}
+use Rattle.cg_schedule.specs.PartLaws.{read_as, same_read, Given}
 
 -- the laws of tokens, and of the parts of a schedule's lines
 pub record Known : Type 0 where
@@ -119,24 +120,15 @@ back other = event.Recover 0
 
 -- ---- parts are read alike
 
-abbrev Read : Type 0 → Type 0
-Read X = Result (X × List (List ℕ)) LineFault
-
-abbrev given : {X : Type 0} → X → Result X LineFault
-given x = Ok x
-
-same_given : {X : Type 0} (x y : X) → given x ≡ given y → x ≡ y
-same_given x y e = cc
-
 -- one part, and what two readings make of it
-one_found : {X E F : Type 0} (made : X → E) (there : X → F) (e : E) (r : Read X) →
+one_found : {X E F : Type 0} (made : X → E) (there : X → F) (e : E) (r : Given X) →
     ended (go_on r (λ x. done (made x))) ≡ Ok e
     → (x : X) × (made x ≡ e) × (ended (go_on r (λ x. done (there x))) ≡ Ok (there x))
-one_found made there e (Ok (x, [])) is = (x, same_given (made x) e is, refl)
+one_found made there e (Ok (x, [])) is = (x, same_read (made x) e is, refl)
 one_found made there e (Ok (x, t ∷ left)) is = absurd cc
 one_found made there e (Err fault) is = absurd cc
 
-two_found : {X Y E F : Type 0} (second : Reading Y) (made : X → Y → E) (there : X → Y → F) (e : E) (r : Read X) →
+two_found : {X Y E F : Type 0} (second : Reading Y) (made : X → Y → E) (there : X → Y → F) (e : E) (r : Given X) →
     ended (go_on r (λ x. second >>= λ y. done (made x y))) ≡ Ok e
     → (x : X) × (y : Y) × (made x y ≡ e) × (ended (go_on r (λ x. second >>= λ y. done (there x y))) ≡ Ok (there x y))
 two_found second made there e (Ok (x, left)) is = let f = one_found (made x) (there x) e (second left) is in
@@ -144,7 +136,7 @@ two_found second made there e (Ok (x, left)) is = let f = one_found (made x) (th
 two_found second made there e (Err fault) is = absurd cc
 
 three_found : {X Y Z E F : Type 0} (second : Reading Y) (third : Reading Z) (made : X → Y → Z → E)
-    (there : X → Y → Z → F) (e : E) (r : Read X)
+    (there : X → Y → Z → F) (e : E) (r : Given X)
     → ended (go_on r (λ x. second >>= λ y. third >>= λ z. done (made x y z))) ≡ Ok e
     → (x : X) × (y : Y) × (z : Z) × (made x y z ≡ e) ×
     (ended (go_on r (λ x. second >>= λ y. third >>= λ z. done (there x y z))) ≡ Ok (there x y z))
@@ -182,22 +174,22 @@ unfolding event_reading make_reading feed_reading stop_reading recover_reading w
 again (event.Follower f p) ts is =
     let g = two_found id_part (λ f p. schedule.Leave f p) (λ f p. event.Follower f p) (schedule.Leave f p)
     (id_part ts) is in
-    g.3 ∙ ap (λ e. given (back e)) g.2
+    g.3 ∙ ap (λ e. read_as (back e)) g.2
 again (event.Feed p f count) ts is =
     let g = three_found id_part count_part (λ p f n. schedule.Transfer p f n) (λ p f n. event.Feed p f n)
     (schedule.Transfer p f count) (id_part ts) is in
-    g.4 ∙ ap (λ e. given (back e)) g.3
+    g.4 ∙ ap (λ e. read_as (back e)) g.3
 again (event.Stop f call fill) ts is =
     let g = three_found (number_part 0 1000000) fill_part (λ f n b. schedule.Stop f n b) (λ f n b. event.Stop f n b)
     (schedule.Stop f call fill) (id_part ts) is in
-    g.4 ∙ ap (λ e. given (back e)) g.3
+    g.4 ∙ ap (λ e. read_as (back e)) g.3
 again (event.Recover f) ts is =
     let g = one_found (λ f. schedule.Order f) (λ f. event.Recover f) (schedule.Order f) (id_part ts) is in
-    g.2 ∙ ap (λ e. given (back e)) g.1
+    g.2 ∙ ap (λ e. read_as (back e)) g.1
 again (event.Weak f query) ts is =
     let g = two_found query_reading (λ f q. schedule.Weak f q) (λ f q. event.Weak f q) (schedule.Weak f query)
     (id_part ts) is in
-    g.3 ∙ ap (λ e. given (back e)) g.2
+    g.3 ∙ ap (λ e. read_as (back e)) g.2
 
 -- ---- how a line begins
 

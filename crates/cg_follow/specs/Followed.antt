@@ -1,9 +1,9 @@
 -- A follower: how many actions of the global order it has taken, and the database that they make.
-use Rattle.std.specs.Prelude.{ℕ, ◌+◌, ◌<◌, List, fold, length}
+use Rattle.std.specs.Prelude.{ℕ, ◌+◌, ◌<◌, List, length}
 use Rattle.cg_base.specs.declared.limits.TheConstants.{COUNT_LIMIT}
 use Rattle.cg_action.specs.declared.action.Action.{Action}
 use Rattle.cg_action.specs.declared.entry.DbEntry.{DbEntry}
-use Rattle.cg_db.specs.Apply.{apply, fold_actions}
+use Rattle.cg_db.specs.Apply.{fold_actions, fold_actions_from}
 use Rattle.cg_disk_records.specs.Limits.{IsDatabase, AreActions}
 
 pub record Followed : Type 0 where
@@ -11,12 +11,9 @@ pub record Followed : Type 0 where
   pub db : List DbEntry
 
 -- the database behind these actions
-abbrev pub applied : List DbEntry → List Action → List DbEntry
-applied db actions = fold (λ db action. (apply db action).db) db actions
-
 -- the follower behind the next actions of the order
 abbrev pub fed : Followed → List Action → Followed
-fed f actions = record { cursor = f.cursor + length actions; db = applied f.db actions }
+fed f actions = record { cursor = f.cursor + length actions; db = fold_actions_from f.db actions }
 
 -- the follower of the first actions of the order, all of them
 abbrev pub follower_of : List Action → Followed

@@ -1,7 +1,7 @@
 ghost use Rattle.std.specs.Prelude.{◌≡◌, OnOk};
 ghost use Rattle.cg_action.specs.ActionLimits.{IsAction};
 ghost use Rattle.cg_base.specs.Lists.{Each};
-ghost use Rattle.cg_follow.specs.Followed.{applied};
+ghost use Rattle.cg_db.specs.Apply.{fold_actions_from};
 
 use cg_action::Action;
 use cg_base::NoMemory;
@@ -31,7 +31,7 @@ impl Model for Taken {
 impl Taken {
     ghost use Rattle.cg_follow.specs.Followed.{fed};
 
-    /// Takes the next actions. Where memory is refused some of them may have been applied.
+    /// Takes the next actions. Where memory is refused some of them may have been fold_actions_from.
     pub(crate) fn take(&mut self, actions: &[Action]) -> Result<(), NoMemory>
         requires { Each IsAction actions.now }
         ensures { OnOk result (self.new ≡ fed self.old actions.now) }
@@ -48,7 +48,7 @@ impl Taken {
 
 fn apply_all(db: &mut Db, actions: &[Action]) -> Result<(), NoMemory>
     requires { Each IsAction actions.now }
-    ensures { OnOk result (db.new ≡ applied db.old actions.now) }
+    ensures { OnOk result (db.new ≡ fold_actions_from db.old actions.now) }
 {
     for action in actions {
         db.apply(action)?;

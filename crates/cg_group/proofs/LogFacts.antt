@@ -140,7 +140,3 @@ prefix-ends test low high lt e =
 pub ready_in-nowhere : (M : Type 0) (delivered : ℕ) → ready_in (no_configuration {M = M}) delivered ≡ 0
 unfolding ready_in
 ready_in-nowhere M delivered = ap (prefix_len (all_received (no_configuration {M = M}))) (above_up_to-none delivered 0 (omega arith))
-
-pub no_place : (X : Type 0) (place : ℕ) → at_place {X = X} [] place ≡ None
-no_place X zero = refl
-no_place X (suc n) = refl

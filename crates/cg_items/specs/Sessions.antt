@@ -1,7 +1,6 @@
 -- Sessions in a world: which of their events are admitted, and what they do.
 use Rattle.std.specs.Prelude.{ℕ, not, List, [], ◌∷◌, Option, Some, None, fold, map}
 use Rattle.std.specs.Option.{option_map_or}
-use Rattle.cg_base.specs.declared.action_id.ActionId.{ActionId}
 use Rattle.cg_base.specs.Lists.{first_some}
 use Rattle.cg_action.specs.declared.query.Query.{Query}
 use Rattle.cg_queue.specs.Queue.{green_count}

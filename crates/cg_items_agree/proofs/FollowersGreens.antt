@@ -1,18 +1,17 @@
 -- What a replica has green against the order, and so what a follower is made of and what it is fed.
 use Rattle.std.proofs.Common.{◌≡◌, ℕ, zero, suc, ◌+◌, ◌-◌, ◌≤◌, ◌<◌, min, List, [], ◌++◌, length, take, drop, refl, sym, ap, ◌∙◌, inl, inr, arith, length-append, length-drop, length-take, take_all, drop-drop, take-add, drop_of_length-le}
 use Rattle.std.proofs.lemmas.Bool.{cases_lt}
-use Rattle.std.proofs.lemmas.List.Sums.{fold-append}
 use Rattle.cg_action.specs.declared.action.Action.{Action}
-use Rattle.cg_action.specs.declared.entry.DbEntry.{DbEntry}
-use Rattle.cg_db.specs.Apply.{apply, fold_actions}
+use Rattle.cg_db.specs.Apply.{fold_actions}
 use Rattle.cg_queue.specs.Queue.{green_count}
 use Rattle.cg_client.specs.Replica.{Replica}
 use Rattle.cg_model.specs.Run.{Step}
 use Rattle.cg_model.specs.Shown.{order_of, ordered_actions, position_of, white_of}
-use Rattle.cg_follow.specs.Followed.{Followed, fed, applied, follower_of}
+use Rattle.cg_follow.specs.Followed.{Followed, fed, follower_of}
 use Rattle.cg_follower_list.specs.Followers.{next_greens}
 use Rattle.cg_model.specs.MadeLaws.{AreMade}
 use Rattle.cg_items_agree.proofs.OrderActions.{ordered-count, ordered-front}
+use Rattle.cg_db.specs.FoldLaws.{fold_actions_from-append}
 
 -- the lines told of the replica's position and white count, and what it has is the order's up to there
 pub record HasGreens (steps : List Step) (p : ℕ) (r : Replica) : Type 0 where
@@ -24,14 +23,10 @@ pub record HasGreens (steps : List Step) (p : ℕ) (r : Replica) : Type 0 where
 
 -- ---- followers of lists
 
-applied-more : (db : List DbEntry) (first next : List Action) →
-    applied db (first ++ next) ≡ applied (applied db first) next
-applied-more db first next = fold-append (λ (d : List DbEntry) (a : Action). (apply d a).db) db first next
-
 feeds-go-on : (first next : List Action) → fed (follower_of first) next ≡ follower_of (first ++ next)
 feeds-go-on first next =
     let count = length-append first next in
-    let db = applied-more [] first next in
+    let db = fold_actions_from-append [] first next in
     (λ i. record { cursor = sym count i; db = sym db i })
 
 take-none : (n : ℕ) → take {A = Action} n [] ≡ []

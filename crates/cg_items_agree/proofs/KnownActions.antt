@@ -1,5 +1,5 @@
 -- What a replica's last line tells it to know: of each creator the made actions up to its red cut, each once.
-use Rattle.std.proofs.Common.{◌≡◌, ℕ, zero, suc, ◌≤◌, ◌<◌, Bool, true, false, ◌||◌, List, [], ◌∷◌, ◌++◌, length, take, Option, Some, None, IfSome, is_some, refl, sym, ap, ap₂, ◌∙◌, subst, arith}
+use Rattle.std.proofs.Common.{◌≡◌, ℕ, zero, suc, ◌≤◌, ◌<◌, Bool, true, false, ◌||◌, List, [], ◌∷◌, ◌++◌, take, Option, Some, None, IfSome, is_some, refl, sym, ap, ap₂, ◌∙◌, subst, arith}
 use Rattle.std.specs.Prelude.{nat_lt, nat_le}
 use Rattle.std.specs.Option.{option_map_or}
 use Rattle.std.proofs.lemmas.Bool.{and_parts, and_from, ltb-true, leb-true, lt-ltb, le-leb}
@@ -43,6 +43,7 @@ use Rattle.cg_items_agree.proofs.MadeNames.{known-own, made-names}
 use Rattle.cg_items_agree.proofs.RelaxedRun.{IsBeside}
 use Rattle.cg_items_agree.proofs.ShownReds.{AreLow, reds-low}
 use Rattle.cg_items_agree.proofs.SessionsHolding.{names-each}
+use Rattle.cg_queue.specs.NameLaws.{names-count}
 
 -- ---- lists
 
@@ -55,10 +56,6 @@ each-named (x ∷ ids) = (
   or-later : (a b : Bool) → b ≡ true → (a || b) ≡ true
   or-later true b e = refl
   or-later false b e = e
-
-names-count : (list : List Action) → length (names_of list) ≡ length list
-names-count [] = refl
-names-count (a ∷ list) = ap suc (names-count list)
 
 names-low : (w : World) (list : List Action) → AreLow w list →
     Each (λ id. id.index ≤ index_in w.made id.creator) (names_of list)

@@ -22,11 +22,12 @@ use Rattle.cg_relaxed.specs.Laws.{OrderDoesNotMatter}
 use Rattle.cg_made_rows.specs.Rows.{cell_at, named_in}
 use Rattle.cg_items.specs.RelaxedAgree.{known_by, together}
 use Rattle.cg_items_agree.proofs.SameCells.{AreOf, same-cells, times-appended}
-use Rattle.cg_items_agree.proofs.KnownNames.{is_up_to, AreUpTo, as-often, names-filtered, not-named}
+use Rattle.cg_items_agree.proofs.KnownNames.{is_up_to, AreUpTo, as-often, not-named}
 use Rattle.cg_items_agree.proofs.KnownActions.{Knows}
 use Rattle.cg_items_agree.proofs.MadeRows.{rows_of}
 use Rattle.cg_items_agree.proofs.NumberedRows.{counts, rows-known, rows-own}
 use Rattle.cg_items_agree.proofs.RelaxedRun.{IsBeside}
+use Rattle.cg_queue.specs.NameLaws.{names-filter}
 
 -- ---- what two know together
 
@@ -78,7 +79,7 @@ module _ (c d : List ActionId) (rising : Rising 0 c) (also : Rising 0 d) (xs ys 
   together-times : (id : ActionId) → times id (names_of (together xs ys)) ≡ times id (names_of xs) + times id (filter (λ id. not (has_name (names_of xs) id)) (names_of ys))
   together-times id =
       times-appended id xs (filter (λ a. not (has_name (names_of xs) a.id)) ys)
-      ∙ ap (λ ids. times id (names_of xs) + times id ids) (names-filtered (λ id. not (has_name (names_of xs) id)) ys)
+      ∙ ap (λ ids. times id (names_of xs) + times id ids) (names-filter (λ id. not (has_name (names_of xs) id)) ys)
 
   of-first : (id : ActionId) → has_name (names_of xs) id ≡ true → times id (names_of (together xs ys)) ≡ 1
   of-first id there =

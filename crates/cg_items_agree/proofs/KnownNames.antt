@@ -1,8 +1,8 @@
 -- The names of the actions that a replica knows: of each creator those up to its index in the red cut, each once.
-use Rattle.std.proofs.Common.{◌≡◌, ℕ, zero, suc, ◌≤◌, Bool, true, false, not, ◌&&◌, List, [], ◌∷◌, ◌++◌, filter, refl, sym, ap, ◌∙◌, subst, inl, inr, arith}
+use Rattle.std.proofs.Common.{◌≡◌, ℕ, zero, suc, ◌≤◌, Bool, true, false, not, ◌&&◌, List, [], ◌∷◌, ◌++◌, refl, sym, ap, ◌∙◌, subst, inl, inr, arith}
 use Rattle.std.specs.Prelude.{nat_lt, nat_le}
 use Rattle.std.specs.List.{list_all}
-use Rattle.std.proofs.lemmas.Bool.{cases_Bool, cond-true, cond-false, and_parts, and_from, or_cases, false_from_ne_true}
+use Rattle.std.proofs.lemmas.Bool.{cases_Bool, and_parts, and_from, or_cases, false_from_ne_true}
 use Rattle.cg_base.specs.declared.action_id.ActionId.{ActionId}
 use Rattle.cg_base.specs.Ids.{has_name, same_id}
 use Rattle.cg_base.specs.IdLaws.{same_id-is}
@@ -19,6 +19,7 @@ use Rattle.cg_model.specs.Chronicle.{Chronicle}
 use Rattle.cg_model.specs.FactsReplica.{IsCore}
 use Rattle.cg_agree_lemmas.specs.NamesTimes.{named-times, times-named, times-passing, times-failing, times-once}
 use Rattle.cg_agree_lemmas.specs.RepliesPlaced.{times, times-both}
+use Rattle.cg_queue.specs.NameLaws.{names-filter}
 
 -- the name is of an action, and none behind the cut
 abbrev pub is_up_to : List ActionId → ActionId → Bool
@@ -76,20 +77,6 @@ up-to-as cut xs ys same is = record {
 pub run-up-to : (ids : List ActionId) → run_on [] ids ≡ true → AreUpTo (cut_behind [] ids) ids
 run-up-to ids run = record { once = λ id. times-once [] ids id tt run; known = λ id. run-names [] ids id tt run }
 
-pub names-filtered : (t : ActionId → Bool) (list : List Action) →
-    names_of (filter (λ a. t a.id) list) ≡ filter t (names_of list)
-names-filtered t [] = refl
-names-filtered t (a ∷ list) = elim (cases_Bool (t a.id)) [
-  | inl passes ↦
-      ap names_of (cond-true (t a.id) (a ∷ filter (λ a. t a.id) list) (filter (λ a. t a.id) list) passes)
-      ∙ ap (λ ids. a.id ∷ ids) (names-filtered t list)
-      ∙ sym (cond-true (t a.id) (a.id ∷ filter t (names_of list)) (filter t (names_of list)) passes)
-  | inr out ↦
-      ap names_of (cond-false (t a.id) (a ∷ filter (λ a. t a.id) list) (filter (λ a. t a.id) list) out)
-      ∙ names-filtered t list
-      ∙ sym (cond-false (t a.id) (a.id ∷ filter t (names_of list)) (filter t (names_of list)) out)
-]
-
 all-there : (t : ActionId → Bool) (ids : List ActionId) (id : ActionId) → list_all t ids ≡ true → 1 ≤ times id ids →
     t id ≡ true
 all-there t ids id all some = at ids all (times-named id ids some) where
@@ -140,7 +127,7 @@ module _ (c : Chronicle) (h : Held) (greens : List Action) (core : IsCore c h gr
   marked-times : (id : ActionId) → times id (yellow ++ names_of (plain_reds h.queue)) ≡ times id reds
   marked-times id =
       let both = times-both id yellow (names_of (plain_reds h.queue)) in
-      let plain = ap (times id) (names-filtered (λ id. not (has_name yellow id)) h.queue.reds) in
+      let plain = ap (times id) (names-filter (λ id. not (has_name yellow id)) h.queue.reds) in
       elim (cases_Bool (has_name yellow id)) [
         | inl there ↦
             let none = times-failing (λ id. not (has_name yellow id)) id reds (ap not there) in

@@ -1,21 +1,21 @@
 -- The last line of a replica that is up shows what it holds.
-use Rattle.std.proofs.Common.{◌≡◌, ℕ, zero, suc, ◌<◌, Bool, cond, List, [], ◌∷◌, find, fold, length, Option, Some, None, IfSome, Contains, option_map, option_and_then, refl, sym, ap, ◌∙◌, subst, inl, inr, arith, eq-eqb}
+use Rattle.std.proofs.Common.{◌≡◌, ℕ, zero, suc, ◌<◌, Bool, List, [], ◌∷◌, find, length, Option, Some, None, IfSome, Contains, option_map, option_and_then, refl, sym, ap, ◌∙◌, subst, inl, inr, arith}
 use Rattle.std.specs.Prelude.{◌==◌}
-use Rattle.std.specs.Option.{option_map_or, option_or}
-use Rattle.std.proofs.lemmas.Bool.{cases_Bool, cases_eq, cond-true, cond-false, ne_eqb}
+use Rattle.std.specs.Option.{option_map_or}
+use Rattle.std.proofs.lemmas.Bool.{cases_Bool, cond-true, cond-false}
 use Rattle.std.proofs.lemmas.List.Elements.{Contains-append_right}
 use Rattle.cg_group.specs.State.{phase_of}
 use Rattle.cg_client.specs.Queries.{view_of}
 use Rattle.cg_client.specs.Replica.{Replica}
-use Rattle.cg_report.specs.declared.line.Line.{Line}
 use Rattle.cg_report.specs.declared.line.UpLine.{UpLine}
 use Rattle.cg_model.specs.World.{NodeState, Up, Down, Node, node_of, replica_of, running}
 use Rattle.cg_model.specs.Show.{line_of, up_line}
 use Rattle.cg_model.specs.Run.{Step}
 use Rattle.cg_model.specs.Shown.{last_up, lines_in}
 use Rattle.cg_model.specs.Chronicle.{Chronicle}
-use Rattle.cg_model.specs.Telling.{Tells, latest, last_line, last_of, printed}
+use Rattle.cg_model.specs.Telling.{Tells, last_line, printed}
 use Rattle.cg_agree_lemmas.specs.NodeFacts.{node-id}
+use Rattle.cg_model.specs.ShowLaws.{IsLastUp, last-up}
 
 found-contains : {X : Type 0} (t : X → Bool) (xs : List X) (x : X) → find t xs ≡ Some x → Contains xs x
 found-contains t [] x e = absurd (let clash : None ≡ Some x = e in cc)
@@ -27,20 +27,6 @@ found-contains t (y ∷ xs) x e = elim (cases_Bool (t y)) [
 ]
 
 -- the last line, if it is of one that is up, is the last one of it up
-abbrev IsLastUp : Option Line → Option UpLine → Type 0
-IsLastUp last up = IfSome last (λ l. IfSome l.up (λ u. up ≡ Some u))
-
-last-up : (p : ℕ) (lines : List Line) (last : Option Line) (up : Option UpLine) → IsLastUp last up →
-    IsLastUp (fold (latest p) last lines) (fold (last_of p) up lines)
-last-up p [] last up is = is
-last-up p (l ∷ lines) last up is = last-up p lines (latest p last l) (last_of p up l) (elim (cases_eq l.id p) [
-  | inl mine ↦ subst (λ b. IsLastUp (cond b (Some l) last) (cond b (option_or l.up up) up)) (sym (eq-eqb l.id p mine)) (of l.up refl)
-  | inr other ↦ subst (λ b. IsLastUp (cond b (Some l) last) (cond b (option_or l.up up) up)) (sym (ne_eqb l.id p other)) is
-]) where
-  of : (o : Option UpLine) → l.up ≡ o → IfSome l.up (λ u. option_or l.up up ≡ Some u)
-  of None e = subst (λ (o : Option UpLine). IfSome o (λ u. option_or o up ≡ Some u)) (sym e) tt
-  of (Some x) e = subst (λ (o : Option UpLine). IfSome o (λ u. option_or o up ≡ Some u)) (sym e) refl
-
 pub record IsLastLine (steps : List Step) (p : ℕ) (r : Replica) : Type 0 where
   pub up : UpLine
   pub last : last_up p steps ≡ Some up

@@ -1,21 +1,20 @@
 -- The made actions of names: each is the one of its name, and where all names were shown as made, they have these names.
-use Rattle.std.proofs.Common.{◌≡◌, true, false, List, [], ◌∷◌, ◌++◌, map, take, Option, Some, None, refl, sym, ap, ap₂, ◌∙◌, inl, inr, append_assoc, append-nil}
-use Rattle.std.proofs.lemmas.Bool.{cases_Bool, cond-true, cond-false, or_cases}
+use Rattle.std.proofs.Common.{◌≡◌, true, List, [], ◌∷◌, ◌++◌, map, take, Option, Some, None, refl, ap, ap₂, ◌∙◌}
 use Rattle.cg_base.specs.EachLaws.{Each-append}
 use Rattle.cg_base.specs.declared.action_id.ActionId.{ActionId}
 use Rattle.cg_base.specs.Ids.{same_id, has_name}
 use Rattle.cg_base.specs.Lists.{present, Each}
-use Rattle.cg_base.specs.IdLaws.{same_id-is, same_id-back}
+use Rattle.cg_base.specs.IdLaws.{same_id-is}
 use Rattle.cg_base.specs.FindLaws.{found_passes}
 use Rattle.cg_action.specs.declared.action.Action.{Action}
 use Rattle.cg_queue.specs.Queue.{names_of}
 use Rattle.cg_report.specs.declared.line.UpLine.{UpLine}
 use Rattle.cg_model.specs.Run.{Step}
-use Rattle.cg_model.specs.Shown.{made_names, made_at, made_from, made_action, made_actions, order_of, ordered_actions}
-use Rattle.cg_model.specs.Agreement.{through, known_actions}
-use Rattle.cg_agree_lemmas.specs.BookGrows.{named_in}
+use Rattle.cg_model.specs.Shown.{made_names, made_from, made_action, made_actions, order_of, ordered_actions}
+use Rattle.cg_model.specs.Agreement.{known_actions}
+use Rattle.cg_agree_lemmas.specs.BookGrows.{named_in, found-more, named-found}
 use Rattle.cg_items_agree.proofs.SameCells.{AreOf}
-use Rattle.cg_model.specs.MadeLaws.{names-from}
+use Rattle.cg_model.specs.MadeLaws.{names-from, made-append}
 
 -- ---- each is the one of its name
 
@@ -37,32 +36,6 @@ known-own steps up =
 
 -- ---- the names of what was made
 
--- a name that stands in a list is found there
-pub record IsFoundIn (list : List Action) (id : ActionId) : Type 0 where
-  pub action : Action
-  pub found : named_in list id ≡ Some action
-  pub name : action.id ≡ id
-
-pub found-there : (list : List Action) (id : ActionId) → has_name (names_of list) id ≡ true → IsFoundIn list id
-found-there [] id is = absurd (let clash : false ≡ true = is in cc)
-found-there (a ∷ list) id is = elim (cases_Bool (same_id a.id id)) [
-  | inl here ↦ record {
-    action = a;
-    found = cond-true (same_id a.id id) (Some a) (named_in list id) here;
-    name = same_id-is a.id id here;
-  }
-  | inr other ↦
-      let rest = found-there list id (elim (or_cases (same_id id a.id) (has_name (names_of list) id) is) [
-        | inl here ↦ absurd (let self = same_id-back id a.id here in let clash : true ≡ false = sym self ∙ other in cc)
-        | inr later ↦ later
-      ]) in
-      record {
-        action = rest.action;
-        found = cond-false (same_id a.id id) (Some a) (named_in list id) other ∙ rest.found;
-        name = rest.name;
-      }
-]
-
 pub record IsMadeAs (steps : List Step) (id : ActionId) : Type 0 where
   pub action : Action
   pub found : made_action steps id ≡ Some action
@@ -70,7 +43,7 @@ pub record IsMadeAs (steps : List Step) (id : ActionId) : Type 0 where
 
 pub made-as : (steps : List Step) (id : ActionId) → has_name (made_names steps) id ≡ true → IsMadeAs steps id
 made-as steps id shown =
-    let is = found-there (made_from [] steps) id (ap (λ ids. has_name ids id) (names-from [] steps) ∙ shown) in
+    let is = named-found (made_from [] steps) id (ap (λ ids. has_name ids id) (names-from [] steps) ∙ shown) in
     record { action = is.action; found = is.found; name = is.name }
 
 pub made-names : (steps : List Step) (ids : List ActionId) → Each (λ id. has_name (made_names steps) id ≡ true) ids →
@@ -84,24 +57,9 @@ made-names steps (id ∷ ids) each =
 -- ---- one step more
 
 -- what was made stays as it was made
-made-both : (before a b : List Step) → made_from before (a ++ b) ≡ made_from before a ++ made_from (before ++ a) b
-made-both before [] b = ap (λ (xs : List Step). made_from xs b) (sym (append-nil before))
-made-both before (s ∷ a) b =
-    let first = map (made_at (through before s)) s.entry.made in
-    ap (λ list. first ++ list) (made-both (through before s) a b ∙ ap (λ (xs : List Step). made_from (through before s) a ++ made_from xs b) (append_assoc before (s ∷ []) a))
-    ∙ sym (append_assoc first (made_from (through before s) a) (made_from (before ++ s ∷ a) b))
-
-found-more : (xs ys : List Action) (id : ActionId) (a : Action) → named_in xs id ≡ Some a →
-    named_in (xs ++ ys) id ≡ Some a
-found-more [] ys id a e = absurd (let clash : None ≡ Some a = e in cc)
-found-more (x ∷ xs) ys id a e = elim (cases_Bool (same_id x.id id)) [
-  | inl here ↦ cond-true (same_id x.id id) (Some x) (named_in (xs ++ ys) id) here ∙ sym (cond-true (same_id x.id id) (Some x) (named_in xs id) here) ∙ e
-  | inr other ↦ cond-false (same_id x.id id) (Some x) (named_in (xs ++ ys) id) other ∙ found-more xs ys id a (sym (cond-false (same_id x.id id) (Some x) (named_in xs id) other) ∙ e)
-]
-
 pub own-later : (a b : List Step) (list : List Action) → AreOf (made_action a) list → AreOf (made_action (a ++ b)) list
 own-later a b [] each = tt
 own-later a b (x ∷ list) each = (
-  ap (λ (xs : List Action). named_in xs x.id) (made-both [] a b) ∙ found-more (made_from [] a) (made_from a b) x.id x each.0,
+  ap (λ (xs : List Action). named_in xs x.id) (made-append [] a b) ∙ found-more (made_from [] a) (made_from a b) x.id x each.0,
   own-later a b list each.1,
 )

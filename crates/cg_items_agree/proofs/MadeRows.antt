@@ -1,7 +1,7 @@
 -- The rows that are kept: of each creator the actions that it has made, in their order.
-use Rattle.std.proofs.Common.{◌≡◌, ◌≢◌, ℕ, zero, suc, ◌+◌, List, [], ◌∷◌, ◌++◌, map, fold, length, refl, sym, ap, ◌∙◌, subst, inl, inr, arith, eq-eqb, append_assoc}
+use Rattle.std.proofs.Common.{◌≡◌, ℕ, ◌+◌, List, [], ◌∷◌, ◌++◌, map, fold, length, refl, sym, ap, ◌∙◌, subst, inl, inr, arith, append_assoc}
 use Rattle.std.specs.Prelude.{◌==◌}
-use Rattle.std.proofs.lemmas.Bool.{cases_eq, cond-true, cond-false, ne_eqb}
+use Rattle.std.proofs.lemmas.Bool.{cases_eq}
 use Rattle.std.proofs.lemmas.List.{append-nil, length-append}
 use Rattle.std.proofs.lemmas.List.Elements.{filter-append}
 use Rattle.cg_base.specs.Lists.{row_at}
@@ -13,54 +13,23 @@ use Rattle.cg_model.specs.Run.{Step}
 use Rattle.cg_model.specs.Making.{made_as, made_by, AreNextOf}
 use Rattle.cg_made_rows.specs.Rows.{with_made}
 use Rattle.cg_items.specs.Relaxing.{with_step}
+use Rattle.cg_made_rows.specs.RowLaws.{row-same, row-other}
+use Rattle.cg_model.specs.MadeRowLaws.{AreRowsOf, next-append, made_by-own, made_by-other}
 
 -- each creator's row has those that it made, in their order
-abbrev pub AreRowsOf : List Action → List (List Action) → Type 0
-AreRowsOf made rows = (p : ℕ) → row_at rows p ≡ made_by p made
-
 -- the rows behind steps
 abbrev pub rows_of : List (List Action) → List Step → List (List Action)
 rows_of rows steps = fold with_step rows steps
 
 -- ---- one action more
 
-row-with : (rows : List (List Action)) (p : ℕ) (a : Action) → row_at (with_made rows p a) p ≡ row_at rows p ++ a ∷ []
-row-with [] zero a = refl
-row-with [] (suc p) a = row-with [] p a
-row-with (row ∷ rows) zero a = refl
-row-with (row ∷ rows) (suc p) a = row-with rows p a
-
-row-other : (rows : List (List Action)) (p : ℕ) (a : Action) (k : ℕ) → p ≢ k →
-    row_at (with_made rows p a) k ≡ row_at rows k
-row-other [] zero a zero apart = absurd (apart refl)
-row-other [] zero a (suc k) apart = refl
-row-other [] (suc p) a zero apart = refl
-row-other [] (suc p) a (suc k) apart = row-other [] p a k (λ e. apart (ap suc e))
-row-other (row ∷ rows) zero a zero apart = absurd (apart refl)
-row-other (row ∷ rows) zero a (suc k) apart = refl
-row-other (row ∷ rows) (suc p) a zero apart = refl
-row-other (row ∷ rows) (suc p) a (suc k) apart = row-other rows p a k (λ e. apart (ap suc e))
-
-with-own : (made : List Action) (a : Action) (p : ℕ) → a.id.creator ≡ p →
-    made_by p (made ++ a ∷ []) ≡ made_by p made ++ a ∷ []
-with-own made a p mine =
-    filter-append (λ (a : Action). a.id.creator == p) made (a ∷ [])
-    ∙ ap (λ (own : List Action). made_by p made ++ own) (cond-true (a.id.creator == p) (a ∷ []) [] (eq-eqb a.id.creator p mine))
-
-with-another : (made : List Action) (a : Action) (p : ℕ) → a.id.creator ≢ p →
-    made_by p (made ++ a ∷ []) ≡ made_by p made
-with-another made a p other =
-    filter-append (λ (a : Action). a.id.creator == p) made (a ∷ [])
-    ∙ ap (λ (own : List Action). made_by p made ++ own) (cond-false (a.id.creator == p) (a ∷ []) [] (ne_eqb a.id.creator p other))
-    ∙ append-nil (made_by p made)
-
 rows-with : (made : List Action) (rows : List (List Action)) (a : Action) → AreRowsOf made rows →
     AreRowsOf (made ++ a ∷ []) (with_made rows a.id.creator a)
 rows-with made rows a are k = elim (cases_eq a.id.creator k) [
   | inl mine ↦
-      ap (row_at (with_made rows a.id.creator a)) (sym mine) ∙ row-with rows a.id.creator a ∙ ap (λ n. row_at rows n ++ a ∷ []) mine
-      ∙ ap (λ (list : List Action). list ++ a ∷ []) (are k) ∙ sym (with-own made a k mine)
-  | inr other ↦ row-other rows a.id.creator a k other ∙ are k ∙ sym (with-another made a k other)
+      ap (row_at (with_made rows a.id.creator a)) (sym mine) ∙ row-same rows a.id.creator a ∙ ap (λ n. row_at rows n ++ a ∷ []) mine
+      ∙ ap (λ (list : List Action). list ++ a ∷ []) (are k) ∙ sym (made_by-own made a k mine)
+  | inr other ↦ row-other rows a.id.creator a k (λ e. other (sym e)) ∙ are k ∙ sym (made_by-other made a k other)
 ]
 
 -- those that a step shows as made
@@ -82,11 +51,6 @@ rows-step made rows s are = rows-made s.world s.entry.made made rows are
 pub record AreNumbered (w : World) (made : List Action) : Type 0 where
   pub count : (p : ℕ) → length (made_by p made) ≡ index_in w.made p
   pub numbered : (p : ℕ) → AreNextOf p 0 (made_by p made)
-
-next-append : (p n m : ℕ) (xs ys : List Action) → AreNextOf p n xs → m ≡ n + length xs → AreNextOf p m ys →
-    AreNextOf p n (xs ++ ys)
-next-append p n m [] ys first at rest = subst (λ k. AreNextOf p k ys) (let none : m ≡ n = omega arith in none) rest
-next-append p n m (a ∷ xs) ys first at rest = (first.0, next-append p (suc n) m xs ys first.1 (omega arith) rest)
 
 pub numbered-on : (w v : World) (made list : List Action) → AreNumbered w made →
     ((p : ℕ) → AreNextOf p (index_in w.made p) (made_by p list)) →

@@ -21,7 +21,8 @@ use Rattle.cg_agree_lemmas.specs.RepliesPlaced.{times}
 use Rattle.cg_made_rows.specs.Rows.{named_in}
 use Rattle.cg_items_agree.proofs.SameCells.{AreOf, times-appended}
 use Rattle.cg_items_agree.proofs.KnownNames.{is_up_to, AreUpTo}
-use Rattle.cg_items_agree.proofs.MadeRows.{AreRowsOf, AreNumbered}
+use Rattle.cg_items_agree.proofs.MadeRows.{AreNumbered}
+use Rattle.cg_model.specs.MadeRowLaws.{AreRowsOf}
 
 -- ---- a row
 

@@ -1,5 +1,5 @@
 -- Where the command isn't `sessions` no session speaks: no item is an event of one, and none has a line of one.
-use Rattle.std.proofs.Common.{◌≡◌, ℕ, suc, true, false, IfSome, option_and_then, List, [], ◌∷◌, ◌++◌, map, flat_map, Option, Some, None, Contains, refl, sym, ap, subst, ◌∙◌, arith, append-nil}
+use Rattle.std.proofs.Common.{◌≡◌, ℕ, suc, IfSome, option_and_then, List, [], ◌∷◌, ◌++◌, map, flat_map, Option, Some, None, Contains, refl, sym, ap, subst, ◌∙◌, arith, append-nil}
 use Rattle.cg_base.specs.declared.action_id.ActionId.{ActionId}
 use Rattle.cg_base.specs.Lists.{present}
 use Rattle.cg_report.specs.declared.entry.Reply.{Reply}
@@ -26,6 +26,7 @@ use Rattle.cg_items.specs.Refused.{Refused}
 use Rattle.cg_items.specs.Relaxing.{relaxed_lines}
 use Rattle.cg_items.specs.SessionsAgree.{at_number, session_line, session_lines, session_event_of, wrote_due, writer_of, at_due, read_due, lines_due, SessionsAgree}
 use Rattle.cg_items_agree.proofs.SessionsItems.{lines-append, lines-one}
+use Rattle.cg_base.specs.BoolLaws.{impossible}
 
 abbrev pub IsOther : Companion → Type 0
 IsOther (OfSessions sessions) = ⊥
@@ -41,36 +42,33 @@ no-follow : {X : Type 0} (list : List X) (f : X → FurtherLine) → ((x : X) �
 no-follow [] f none = refl
 no-follow (x ∷ list) f none = ap (λ o. present (o ∷ map session_line (map f list))) (none x) ∙ no-follow list f none
 
-no-own : {A : Type 0} → false ≡ true → A
-no-own e = absurd (let clash : false ≡ true = e in cc)
-
 silent : (w : World) (c : Companion) (f : Option Further) (o : Option Step) → IsOther c → IfSome f (IsTaken w c o) → IsSilent w c f o
 silent w (OfSessions sessions) f o other taken = absurd other
 silent w Alone None None other taken = record { other = tt; lines = refl; event = refl }
 silent w Alone None (Some s) other taken = record { other = tt; lines = refl; event = refl }
-silent w Alone (Some (further.Session e)) o other taken = no-own taken.0
-silent w Alone (Some (further.Follow e)) o other taken = no-own taken.0
-silent w Alone (Some (further.Relaxed e)) o other taken = no-own taken.0
+silent w Alone (Some (further.Session e)) o other taken = impossible taken.0
+silent w Alone (Some (further.Follow e)) o other taken = impossible taken.0
+silent w Alone (Some (further.Relaxed e)) o other taken = impossible taken.0
 silent w Comparing None None other taken = record { other = tt; lines = refl; event = refl }
 silent w (Imaging replica) None None other taken = record { other = tt; lines = refl; event = refl }
 silent w Comparing None (Some s) other taken = record { other = tt; lines = refl; event = refl }
 silent w (Imaging replica) None (Some s) other taken = record { other = tt; lines = refl; event = refl }
-silent w Comparing (Some (further.Session e)) o other taken = no-own taken.0
-silent w (Imaging replica) (Some (further.Session e)) o other taken = no-own taken.0
-silent w Comparing (Some (further.Follow e)) o other taken = no-own taken.0
-silent w (Imaging replica) (Some (further.Follow e)) o other taken = no-own taken.0
-silent w Comparing (Some (further.Relaxed e)) o other taken = no-own taken.0
-silent w (Imaging replica) (Some (further.Relaxed e)) o other taken = no-own taken.0
+silent w Comparing (Some (further.Session e)) o other taken = impossible taken.0
+silent w (Imaging replica) (Some (further.Session e)) o other taken = impossible taken.0
+silent w Comparing (Some (further.Follow e)) o other taken = impossible taken.0
+silent w (Imaging replica) (Some (further.Follow e)) o other taken = impossible taken.0
+silent w Comparing (Some (further.Relaxed e)) o other taken = impossible taken.0
+silent w (Imaging replica) (Some (further.Relaxed e)) o other taken = impossible taken.0
 silent w (Followers list) None None other taken = record { other = tt; lines = refl; event = refl }
 silent w (Followers list) None (Some s) other taken = record { other = tt; lines = refl; event = refl }
-silent w (Followers list) (Some (further.Session e)) o other taken = no-own taken.0
-silent w (Followers list) (Some (further.Relaxed e)) o other taken = no-own taken.0
+silent w (Followers list) (Some (further.Session e)) o other taken = impossible taken.0
+silent w (Followers list) (Some (further.Relaxed e)) o other taken = impossible taken.0
 silent w (Followers list) (Some (further.Follow e)) (Some s) other taken = record { other = tt; lines = refl; event = refl }
 silent w (Followers list) (Some (further.Follow e)) None other taken = record { other = tt; lines = no-follow (follow_acts w list e).lines line.Follow (λ l. refl); event = refl }
 silent w (Relaxed rows) None None other taken = record { other = tt; lines = refl; event = refl }
 silent w (Relaxed rows) None (Some s) other taken = record { other = tt; lines = refl; event = refl }
-silent w (Relaxed rows) (Some (further.Session e)) o other taken = no-own taken.0
-silent w (Relaxed rows) (Some (further.Follow e)) o other taken = no-own taken.0
+silent w (Relaxed rows) (Some (further.Session e)) o other taken = impossible taken.0
+silent w (Relaxed rows) (Some (further.Follow e)) o other taken = impossible taken.0
 silent w (Relaxed rows) (Some (further.Relaxed e)) (Some s) other taken = record { other = tt; lines = refl; event = refl }
 silent w (Relaxed rows) (Some (further.Relaxed e)) None other taken = record { other = tt; lines = no-follow (relaxed_lines w rows e) line.Relaxed (λ l. refl); event = refl }
 

@@ -24,11 +24,12 @@ use Rattle.cg_model.specs.Standing.{AlwaysStands, IsReached}
 use Rattle.cg_model.specs.Telling.{EveryRunTells}
 use Rattle.cg_agree_lemmas.specs.BookGrows.{IsNamed, named_in, named-all}
 use Rattle.cg_items.specs.Relaxing.{with_step}
-use Rattle.cg_items_agree.proofs.MadeRows.{AreRowsOf, AreNumbered, rows_of, no-rows, rows-step, numbered-on}
+use Rattle.cg_items_agree.proofs.MadeRows.{AreNumbered, rows_of, no-rows, rows-step, numbered-on}
 use Rattle.cg_items_agree.proofs.NamedIds.{AreIds, ids-behind, no-ids}
 use Rattle.cg_base.specs.ElementLaws.{each-contains}
 use Rattle.cg_model.specs.MadeLaws.{made-last}
 use Rattle.cg_model.specs.RunLaws.{front-run, world-last, chronicle-last}
+use Rattle.cg_model.specs.MadeRowLaws.{AreRowsOf}
 
 -- ---- fronts of runs
 

@@ -43,13 +43,15 @@ use Rattle.cg_agree_lemmas.specs.FrontFacts.{split_by_Front, Front-length}
 use Rattle.cg_agree_lemmas.specs.MadeSplit.{rising-set-list}
 use Rattle.cg_agree_lemmas.specs.NodeFacts.{node-id}
 use Rattle.cg_agree_lemmas.specs.RestsBehind.{handed-ids, split-to}
-use Rattle.cg_agree_lemmas.specs.TurnGreens.{memory-count, names-append, names-count}
+use Rattle.cg_agree_lemmas.specs.TurnGreens.{memory-count}
 use Rattle.cg_agree_lemmas.specs.TurnReplies.{step-answered}
 use Rattle.cg_agree_lemmas.specs.TurnWorlds.{up_node, life_at}
 use Rattle.cg_agree_lemmas.specs.WorldTurns.{EndsSo, hand-behind, alone-ends, handed-ends}
 use Rattle.cg_agree_lemmas.specs.EventRuns.{event-runs}
 use Rattle.cg_agree_lemmas.specs.GreensBehind.{greens-through}
 use Rattle.cg_agree_lemmas.specs.DiskSwaps.{recover_under-cases}
+use Rattle.cg_queue.specs.NameLaws.{names-append, names-count}
+use Rattle.cg_model.specs.ShowLaws.{answered_from-none}
 
 -- ---- places
 
@@ -196,10 +198,6 @@ module _ (V : List ActionId) (differ : AllDiffer V) where
 
 -- ---- the replies of an event
 
-none-answered : (n : ℕ) (ids : List ActionId) → answered_from n ids [] ≡ []
-none-answered n [] = refl
-none-answered n (id ∷ ids) = refl
-
 each-split : (w : World) (set list : List ℕ) → Each (λ q. has set q ≡ true) list → Each (λ h. IsHanded w (Split set) h.to (Deliveries h.list)) (map (handed_in_split w.group set) list)
 each-split w set [] each = tt
 each-split w set (q ∷ list) each =
@@ -287,7 +285,7 @@ recovered-none : (w : World) (p : ℕ) → (recover w p).replies ≡ []
 recovered-none w p = at (node_of w p) where
   life : (l : NodeState) → (recover_from w l).replies ≡ []
   life (Up r disk) = refl
-  life (Down disk green) = ap (λ new. fold with_answered [] new) (none-answered _ green)
+  life (Down disk green) = ap (λ new. fold with_answered [] new) (answered_from-none _ green)
 
   at : (o : Option Node) → (option_map_or (λ s. recover_from w s.life) o (quietly w)).replies ≡ []
   at None = refl

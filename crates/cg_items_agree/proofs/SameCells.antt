@@ -2,7 +2,6 @@
 use Rattle.std.proofs.Common.{◌≡◌, ℕ, suc, ◌+◌, ◌≤◌, true, false, List, [], ◌∷◌, ◌++◌, Option, Some, refl, sym, ap, ap₂, ◌∙◌, subst, inl, inr, arith, append_assoc}
 use Rattle.std.specs.Option.{option_map_or}
 use Rattle.std.proofs.lemmas.Bool.{cases_Bool, cond-true, cond-false}
-use Rattle.std.proofs.lemmas.List.{map-append}
 use Rattle.cg_base.specs.Lists.{Each}
 use Rattle.cg_base.specs.EachLaws.{Each-append}
 use Rattle.cg_base.specs.declared.action_id.ActionId.{ActionId}
@@ -14,6 +13,7 @@ use Rattle.cg_agree_lemmas.specs.RepliesPlaced.{times, times-both}
 use Rattle.cg_relaxed.specs.declared.cell.Cell.{Cell}
 use Rattle.cg_relaxed.specs.Cells.{cell_of}
 use Rattle.cg_relaxed.specs.Laws.{OrderDoesNotMatter}
+use Rattle.cg_queue.specs.NameLaws.{names-append}
 
 -- each name is as often among the ones as among the others
 abbrev pub SameTimes : List Action → List Action → Type 0
@@ -23,12 +23,9 @@ SameTimes xs ys = (id : ActionId) → times id (names_of xs) ≡ times id (names
 abbrev pub AreOf : (ActionId → Option Action) → List Action → Type 0
 AreOf book list = Each (λ a. book a.id ≡ Some a) list
 
-names-both : (xs ys : List Action) → names_of (xs ++ ys) ≡ names_of xs ++ names_of ys
-names-both xs ys = map-append (λ (a : Action). a.id) xs ys
-
 pub times-appended : (id : ActionId) (xs ys : List Action) →
     times id (names_of (xs ++ ys)) ≡ times id (names_of xs) + times id (names_of ys)
-times-appended id xs ys = ap (times id) (names-both xs ys) ∙ times-both id (names_of xs) (names_of ys)
+times-appended id xs ys = ap (times id) (names-append xs ys) ∙ times-both id (names_of xs) (names_of ys)
 
 times-first : (id : ActionId) (a : Action) (xs : List Action) →
     times id (names_of (a ∷ xs)) ≡ times id (a.id ∷ []) + times id (names_of xs)

@@ -1,9 +1,9 @@
 -- What stands behind the steps of a run, and what one more step shows: its replies ascend, and each is to an action that was made.
-use Rattle.std.proofs.Common.{◌≡◌, zero, suc, ◌<◌, ◌≤◌, Bool, true, false, ◌||◌, List, [], ◌∷◌, ◌++◌, map, flat_map, length, None, Contains, refl, sym, ap, subst, ◌∙◌, arith, if◌then◌else◌, append-nil}
+use Rattle.std.proofs.Common.{◌≡◌, zero, suc, ◌<◌, ◌≤◌, Bool, true, false, List, [], ◌∷◌, ◌++◌, map, flat_map, length, None, Contains, refl, sym, ap, subst, ◌∙◌, arith, if◌then◌else◌, append-nil}
 use Rattle.std.proofs.lemmas.List.{map-append}
 use Rattle.cg_base.specs.declared.action_id.ActionId.{ActionId}
 use Rattle.cg_base.specs.Ids.{same_id, has_name}
-use Rattle.cg_base.specs.IdLaws.{same_id-is, same_id-self}
+use Rattle.cg_base.specs.IdLaws.{same_id-is, has_name-contained}
 use Rattle.cg_base.specs.Lists.{Each}
 use Rattle.cg_report.specs.declared.entry.Made.{Made}
 use Rattle.cg_report.specs.declared.entry.Placed.{Placed}
@@ -29,7 +29,7 @@ use Rattle.cg_items_agree.proofs.SessionsRising.{Ascends}
 use Rattle.cg_items_agree.proofs.RepliesAt.{IsAt, replies-fine}
 use Rattle.cg_items_agree.proofs.RepliesAscend.{ascends}
 use Rattle.cg_base.specs.ElementLaws.{flat-append}
-use Rattle.cg_model.specs.RunLaws.{front-run, world-last}
+use Rattle.cg_model.specs.RunLaws.{front-run, world-last, world_of, chronicle_of}
 
 -- the laws of the crates below that are cited
 pub record Laws : Type 0 where
@@ -40,12 +40,6 @@ pub record Laws : Type 0 where
   pub made : AlwaysMadeInBook
 
 -- ---- runs
-
-abbrev pub world_of : List Step → World
-world_of steps = world_after no_world steps
-
-abbrev pub chronicle_of : List Step → Chronicle
-chronicle_of steps = chronicle_after no_chronicle no_world steps
 
 -- what the run says of a step
 pub record IsStepOf (w : World) (s : Step) : Type 0 where
@@ -94,14 +88,6 @@ pub made-through : (steps : List Step) (s : Step) → made_names (through steps 
 made-through steps s =
     ap (map (λ (m : Made). m.id)) (flat-append (λ (s : Step). s.entry.made) steps (s ∷ []) ∙ ap (λ xs. flat_map (λ (s : Step). s.entry.made) steps ++ xs) (append-nil s.entry.made))
     ∙ map-append (λ (m : Made). m.id) (flat_map (λ (s : Step). s.entry.made) steps) s.entry.made
-
-pub contains-names : (ids : List ActionId) (id : ActionId) → Contains ids id → has_name ids id ≡ true
-contains-names [] id there = absurd (let less = there.1 in omega arith)
-contains-names (x ∷ ids) id (zero, less, is) = ap (λ b. b || has_name ids id) (subst (λ y. same_id id y ≡ true) (sym is) (same_id-self id))
-contains-names (x ∷ ids) id (suc k, less, is) = or-later (same_id id x) (has_name ids id) (contains-names ids id (k, omega arith, is)) where
-  or-later : (a b : Bool) → b ≡ true → (a || b) ≡ true
-  or-later true b e = refl
-  or-later false b e = e
 
 -- a name whose place is within so many stands among so many
 pub placed-there : (order : List ActionId) (id : ActionId) → place_of order id ≤ length order → Contains order id
@@ -184,4 +170,4 @@ module _ (laws : Laws) (before : List Step) (s : Step) (run : IsRunFrom no_world
   pub ordered-made : (id : ActionId) → place_of s.world.order id ≤ length s.world.order → has_name (made_names now) id ≡ true
   ordered-made id within =
       let there : Contains (order_of now) id = subst (λ (v : List ActionId). Contains v id) order-now (placed-there s.world.order id within) in
-      contains-names (made_names now) id (is.agree.creator_order.made_before before s id ([], refl) there)
+      has_name-contained (made_names now) id (is.agree.creator_order.made_before before s id ([], refl) there)

@@ -5,7 +5,7 @@ use Rattle.std.proofs.lemmas.Bool.{cases_lt, lt-ltb}
 use Rattle.std.proofs.lemmas.List.Elements.{Contains-append_cases}
 use Rattle.cg_base.specs.declared.action_id.ActionId.{ActionId}
 use Rattle.cg_base.specs.Ids.{same_id}
-use Rattle.cg_base.specs.IdLaws.{same_id-is}
+use Rattle.cg_base.specs.IdLaws.{same_id-is, has_name-contained}
 use Rattle.cg_base.specs.Lists.{first_some, present, Each}
 use Rattle.cg_action.specs.declared.action.Kind.TheVariants.{Update}
 use Rattle.cg_action.specs.declared.command.Cmd.{Cmd}
@@ -43,7 +43,7 @@ use Rattle.cg_items.specs.SessionsAgree.{session_lines, session_event_of, at_num
 use Rattle.cg_agree_lemmas.specs.UnorderedKept.{first-none}
 use Rattle.cg_items_agree.proofs.SessionsRising.{Rises, never-falls}
 use Rattle.cg_items_agree.proofs.SessionsLooking.{stands-token}
-use Rattle.cg_items_agree.proofs.SessionsBehind.{Laws, contains-names}
+use Rattle.cg_items_agree.proofs.SessionsBehind.{Laws}
 use Rattle.cg_items_agree.proofs.SessionsWrites.{IsMade, MadeOne, MadeNone, one_made, write-made}
 use Rattle.cg_items_agree.proofs.SessionsReading.{read-at}
 use Rattle.cg_items_agree.proofs.SessionsItems.{world-next}
@@ -232,8 +232,8 @@ module _ (laws : Laws) (items : List Item) (run : IsRunFrom no_world (steps_of i
       pub read-own : (id : ActionId) → Contains (written s earlier) id → Contains (replied_to earlier) id → Contains (take n (order_behind earlier)) id
       read-own id wrote replied =
           let h = stand.holds in
-          let own = h.told.owned s id ∙ contains-names (written s earlier) id wrote in
-          let low = h.held s id own (contains-names (replied_to earlier) id replied) in
+          let own = h.told.owned s id ∙ has_name-contained (written s earlier) id wrote in
+          let low = h.held s id own (has_name-contained (replied_to earlier) id replied) in
           let seen_there = h.told.position s in
           let up = read.above in
           placed-take (order_behind earlier) n id (omega arith) read-within

@@ -4,7 +4,7 @@ use Rattle.std.proofs.Common.{◌≡◌, ◌⊎◌, ℕ, suc, ◌≤◌, ◌||�
 use Rattle.std.proofs.lemmas.Bool.{cases_Bool, or_cases}
 use Rattle.cg_base.specs.declared.action_id.ActionId.{ActionId}
 use Rattle.cg_base.specs.Ids.{has_name, same_id}
-use Rattle.cg_base.specs.IdLaws.{same_id-is}
+use Rattle.cg_base.specs.IdLaws.{same_id-is, has_name-append}
 use Rattle.cg_base.specs.Lists.{Each}
 use Rattle.cg_model.specs.Places.{place_of}
 use Rattle.cg_session_list.specs.declared.session.Session.{Session}
@@ -13,7 +13,7 @@ use Rattle.cg_session_list.specs.Sessions.{SessionsNoted}
 use Rattle.cg_items.specs.SessionsAgree.{writer_of}
 use Rattle.cg_items_agree.proofs.SessionsRising.{rises-least}
 use Rattle.cg_items_agree.proofs.SessionsLooking.{stands_in}
-use Rattle.cg_items_agree.proofs.SessionsTold.{numbers_on, is_of, position_in, owns, names-append, writer-append, or-none, or_else, IsTold, GoesOn, told-on, told-first}
+use Rattle.cg_items_agree.proofs.SessionsTold.{numbers_on, is_of, position_in, owns, writer-append, or-none, or_else, IsTold, GoesOn, told-on, told-first}
 use Rattle.cg_items_agree.proofs.SessionsFollowing.{Followed}
 
 -- a name within the order keeps its place as the order goes on
@@ -94,7 +94,7 @@ module _ (lines : List SessionLine) (opened : ℕ → Bool) (made order replied 
         ]
 
   either : (id : ActionId) → has_name (replied ++ new) id ≡ true → (has_name replied id ≡ true) ⊎ (has_name new id ≡ true)
-  either id there = or_cases (has_name replied id) (has_name new id) (sym (names-append replied new id) ∙ there)
+  either id there = or_cases (has_name replied id) (has_name new id) (sym (has_name-append replied new id) ∙ there)
 
   still : (id : ActionId) → has_name replied id ≡ true → place_of (order ++ more) id ≡ place_of order id
   still id there = place-grows order more id (h.placed id there)

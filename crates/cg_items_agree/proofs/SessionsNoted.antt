@@ -41,7 +41,7 @@ use Rattle.cg_items.specs.Sessions.{not_creating, read_of, with_written}
 use Rattle.cg_items.specs.SessionsAgree.{session_lines, seen, opens, was_opened, replied_to, wrote_due, writer_of, at_due, read_due}
 use Rattle.cg_agree_lemmas.specs.UnorderedKept.{first-none, refused-not}
 use Rattle.cg_items_agree.proofs.SessionsLooking.{stands_in, stands-token, stands-new}
-use Rattle.cg_items_agree.proofs.SessionsTold.{names-append, position_in, due_from, goes-none, goes-opened, goes-read, read_line}
+use Rattle.cg_items_agree.proofs.SessionsTold.{position_in, due_from, goes-none, goes-opened, goes-read, read_line}
 use Rattle.cg_items_agree.proofs.SessionsRising.{Ascends}
 use Rattle.cg_items_agree.proofs.SessionsFollowing.{FreshOne, MayWrite, written_by, wrote_lines, follows-on}
 use Rattle.cg_items_agree.proofs.SessionsHolding.{HoldsIn, holds-beside, holds-behind, names-each}
@@ -50,6 +50,8 @@ use Rattle.cg_items_agree.proofs.SessionsWrites.{IsMade, MadeOne, MadeNone, writ
 use Rattle.cg_items_agree.proofs.SessionsReading.{read-at}
 use Rattle.cg_items_agree.proofs.SessionsItems.{order_by, made_by, replied_by}
 use Rattle.cg_group.specs.RefusalLaws.{refuse_none}
+use Rattle.cg_base.specs.BoolLaws.{or_false}
+use Rattle.cg_base.specs.IdLaws.{has_name-append}
 
 -- what is held behind items
 abbrev pub Holds : List Item → List Session → Type 0
@@ -70,10 +72,6 @@ pub record Comes (earlier : List Item) (open_ : List Session) (f : Option Furthe
   pub lines : noted.lines ≡ due_of earlier f o (order_by o (order_behind earlier))
   pub holds : HoldsIn (session_lines earlier ++ noted.lines) (λ s. was_opened s earlier || opens s (option_and_then session_event f))
       (made_by o (made_names (steps_of earlier))) (order_by o (order_behind earlier)) (replied_by o (replied_to earlier)) noted.sessions
-
-or-false : (b : Bool) → b ≡ (b || false)
-or-false true = refl
-or-false false = refl
 
 at-due : (earlier : List Item) (place : ℕ) (o : Option ℕ) → due_from (λ s. seen s earlier) place o ≡ at_due earlier place o
 at-due earlier place None = refl
@@ -140,7 +138,7 @@ module _ (laws : Laws) (earlier : List Item) (open_ : List Session) (h : Holds e
               (λ r. at-due earlier (place_of order r.id) (writer_of (session_lines earlier ++ wrote_lines w mine) r.id)) s.entry.replies)
 
           first : (xs ys : List ActionId) (id : ActionId) → has_name xs id ≡ true → has_name (xs ++ ys) id ≡ true
-          first xs ys id there = names-append xs ys id ∙ ap (λ b. b || has_name ys id) there
+          first xs ys id there = has_name-append xs ys id ∙ ap (λ b. b || has_name ys id) there
 
           each-made : (ids : List ActionId) → Each (λ id. place_of s.world.order id ≤ length s.world.order) ids → Each (λ id. has_name (made_names before ++ map (λ m. m.id) s.entry.made) id ≡ true) ids
           each-made ids within = Each-weaker (λ id. place_of s.world.order id ≤ length s.world.order) (λ id. has_name (made_names before ++ map (λ m. m.id) s.entry.made) id ≡ true)
@@ -150,7 +148,7 @@ module _ (laws : Laws) (earlier : List Item) (open_ : List Session) (h : Holds e
               HoldsIn lines (λ t. was_opened t earlier || opens t asked) made order replied sessions
           still is = record {
             told = is.told;
-            stands = λ t. is.stands t ∙ or-false (was_opened t earlier) ∙ ap (λ b. was_opened t earlier || b) (sym (opens_none t));
+            stands = λ t. is.stands t ∙ sym (or_false (was_opened t earlier)) ∙ ap (λ b. was_opened t earlier || b) (sym (opens_none t));
             known = is.known;
             placed = is.placed;
             was_made = is.was_made;
@@ -207,7 +205,7 @@ module _ (laws : Laws) (earlier : List Item) (open_ : List Session) (h : Holds e
         within : (id : ActionId) → has_name (map (λ (m : Made). m.id) s.entry.made) id ≡ true → has_name (made_names (through before s)) id ≡ true
         within id there =
             let ids = map (λ (m : Made). m.id) s.entry.made in
-            ap (λ ids. has_name ids id) (made-through before s) ∙ names-append (made_names before) ids id ∙ ap (λ b. has_name (made_names before) id || b) there ∙ or-true (has_name (made_names before) id) where
+            ap (λ ids. has_name ids id) (made-through before s) ∙ has_name-append (made_names before) ids id ∙ ap (λ b. has_name (made_names before) id || b) there ∙ or-true (has_name (made_names before) id) where
               or-true : (b : Bool) → (b || true) ≡ true
               or-true true = refl
               or-true false = refl
@@ -220,7 +218,7 @@ module _ (laws : Laws) (earlier : List Item) (open_ : List Session) (h : Holds e
     same = refl;
     lines = refl;
     holds = holds-beside (session_lines earlier) [] (λ s. was_opened s earlier) (λ s. was_opened s earlier || false) (made_names before) (order_behind earlier) (replied_to earlier) open_ open_ h
-        (goes-none open_ h.told.apart) (λ s. h.stands s ∙ or-false (was_opened s earlier));
+        (goes-none open_ h.told.apart) (λ s. h.stands s ∙ sym (or_false (was_opened s earlier)));
   }
 
   comes-opened : (t : ℕ) → stands_in open_ t ≡ false → Comes earlier open_ (Some (further.Session (Begin t))) None
@@ -249,7 +247,7 @@ module _ (laws : Laws) (earlier : List Item) (open_ : List Session) (h : Holds e
               ∙ ap (λ (o : Option Token). of_sessions (option_map_or (read_of open_ t query r.replica) o (sessions_unchanged open_))) found;
           lines = on.lines ∙ (λ i. read_line t (answered i) (at_pos i) (low i));
           holds = holds-beside (session_lines earlier) (read_as open_ t a pos (read k pos)).lines (λ s. was_opened s earlier) (λ s. was_opened s earlier || false) (made_names before) (order_behind earlier)
-              (replied_to earlier) open_ (read_as open_ t a pos (read k pos)).sessions h on.goes (λ s. on.stands s ∙ h.stands s ∙ or-false (was_opened s earlier));
+              (replied_to earlier) open_ (read_as open_ t a pos (read k pos)).sessions h on.goes (λ s. on.stands s ∙ h.stands s ∙ sym (or_false (was_opened s earlier)));
         }
 
     at : (o : Option Token) → token_of open_ t ≡ o → Comes earlier open_ (Some (further.Session (Weak t p query))) None

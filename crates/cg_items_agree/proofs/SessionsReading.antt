@@ -9,9 +9,9 @@ use Rattle.cg_model.specs.Run.{Step, IsRunFrom}
 use Rattle.cg_model.specs.Shown.{order_of, ordered_actions, position_of}
 use Rattle.cg_agree_lemmas.specs.MadeAlone.{takes-part, is-running}
 use Rattle.cg_agree_lemmas.specs.SoundWorlds.{sound-of, sound-same}
-use Rattle.cg_items_agree.proofs.SessionsBehind.{Laws, world_of, chronicle_of, StandsBehind, stands-behind}
+use Rattle.cg_items_agree.proofs.SessionsBehind.{Laws, StandsBehind, stands-behind}
 use Rattle.cg_base.specs.ElementLaws.{HasLast, last-of}
-use Rattle.cg_model.specs.RunLaws.{world-last}
+use Rattle.cg_model.specs.RunLaws.{world-last, world_of, chronicle_of}
 
 pub record ReadAt (steps : List Step) (p : ℕ) : Type 0 where
   pub replica : Replica

@@ -4,7 +4,7 @@ use Rattle.std.proofs.lemmas.Bool.{cases_Bool, cases_lt, ltb-true, lt-ltb}
 use mathlib.Core.List.{map-append}
 use Rattle.cg_base.specs.declared.action_id.ActionId.{ActionId}
 use Rattle.cg_base.specs.Ids.{has_name, same_id}
-use Rattle.cg_base.specs.IdLaws.{same_id-is}
+use Rattle.cg_base.specs.IdLaws.{same_id-is, has_name-append}
 use Rattle.cg_base.specs.Lists.{first_some, present}
 use Rattle.cg_action.specs.declared.answer.Answer.{Answer}
 use Rattle.cg_session.specs.Token.{Token, wrote, read, raises, replied}
@@ -52,13 +52,6 @@ writer-append a b id = ap first_some (map-append (writer_on id) a b) ∙ first-b
 pub or-none : (a : Option ℕ) → or_else a None ≡ a
 or-none None = refl
 or-none (Some x) = refl
-
-pub names-append : (a b : List ActionId) (id : ActionId) → has_name (a ++ b) id ≡ (has_name a id || has_name b id)
-names-append [] b id = refl
-names-append (x ∷ a) b id = at (same_id id x) (names-append a b id) where
-  at : (c : Bool) → has_name (a ++ b) id ≡ (has_name a id || has_name b id) → (c || has_name (a ++ b) id) ≡ ((c || has_name a id) || has_name b id)
-  at true rest = refl
-  at false rest = rest
 
 -- ---- what is held
 
@@ -138,7 +131,7 @@ wrote-names id t x = at (has_name t.written id) refl where
 
   at : (b : Bool) → has_name t.written id ≡ b → has_name (if b then t else record t { written = t.written ++ id ∷ [] }).written x ≡ (has_name t.written x || same_id x id)
   at true there = known there
-  at false there = names-append t.written (id ∷ []) x ∙ ap (λ b. has_name t.written x || b) (or-false (same_id x id))
+  at false there = has_name-append t.written (id ∷ []) x ∙ ap (λ b. has_name t.written x || b) (or-false (same_id x id))
 
 module _ (open_ : List Session) (lines : List SessionLine) (is : IsTold open_ lines) (t : ℕ) (id : ActionId) (stands : stands_in open_ t ≡ true) (fresh : writer_of lines id ≡ None) where
   abbrev after_write : List Session
@@ -218,7 +211,7 @@ module _ (open_ : List Session) (lines : List SessionLine) (is : IsTold open_ li
         ∙ ap (last_from 0) (sym (numbers-append s lines (Wrote t id ∷ []) ∙ append-nil (numbers_on s lines)));
     rises = λ s. subst (Rises 0) (sym (numbers-append s lines (Wrote t id ∷ []) ∙ append-nil (numbers_on s lines))) (is.rises s);
     owned = λ s x. wrote-owns s x ∙ ap (λ b. b || ((t == s) && same_id x id)) (is.owned s x)
-        ∙ sym (ap (λ ids. has_name ids x) (written-append s lines (Wrote t id ∷ [])) ∙ names-append (written_in s lines) (written_in s (Wrote t id ∷ [])) x
+        ∙ sym (ap (λ ids. has_name ids x) (written-append s lines (Wrote t id ∷ [])) ∙ has_name-append (written_in s lines) (written_in s (Wrote t id ∷ [])) x
         ∙ ap (λ b. has_name (written_in s lines) x || b) (new-written s x));
     writer = λ s x. wrote-owns s x ∙ ap (λ b. b || ((t == s) && same_id x id)) (is.writer s x) ∙ new-writer s x ∙ ap (is_of s) (sym (writer-append lines (Wrote t id ∷ []) x));
   }

@@ -18,7 +18,7 @@ use Rattle.cg_client.specs.Turn.{Turn, begin}
 use Rattle.cg_states.specs.ReplicaStep.{Asks as AsksOf, replica_step}
 use Rattle.cg_disk_records.specs.Crash.{Disk, EventEnd, Runs, Crashes, end_event}
 use Rattle.cg_schedule.specs.declared.event.Event.TheVariants.{Request}
-use Rattle.cg_model.specs.World.{NodeState, Up, Down, Node, World, no_world, node_of, replica_of, running, set_life}
+use Rattle.cg_model.specs.World.{NodeState, Up, Down, Node, World, no_world, node_of, replica_of, running}
 use Rattle.cg_model.specs.Show.{StepInProgress, Moved, ended}
 use Rattle.cg_model.specs.Step.{quietly, hand, ask, happens, world_step}
 use Rattle.cg_model.specs.AtNode.{after_event, hand_to}
@@ -30,10 +30,11 @@ use Rattle.cg_model.specs.Making.{made_as, newly_made, made_by, AreNextOf}
 use Rattle.cg_model.specs.FactsReplica.{IsModeData}
 use Rattle.cg_model.specs.Places.{creates}
 use Rattle.cg_model.specs.Played.{StandsBeside}
-use Rattle.cg_agree_lemmas.specs.ChronicleFacts.{node_of-set}
+use Rattle.cg_agree_lemmas.specs.ChronicleFacts.{replica_of-set}
 use Rattle.cg_agree_lemmas.specs.NodeFacts.{node-id}
 use Rattle.cg_agree_lemmas.specs.TurnWorlds.{up_node}
-use Rattle.cg_items_agree.proofs.SessionsBehind.{Laws, step-is, was, chronicle_of, world_of}
+use Rattle.cg_items_agree.proofs.SessionsBehind.{Laws, step-is, was}
+use Rattle.cg_model.specs.RunLaws.{world_of, chronicle_of}
 
 -- an action that was made, as it is shown
 abbrev pub one_made : ℕ → ℕ → Kind → Made
@@ -63,11 +64,6 @@ made-in r kind creating = at r.state creating where
   at Un e = absurd (let clash : false ≡ true = e in cc)
 
 -- what a node runs, where it is the one that was set
-set-runs : (w : World) (p : ℕ) (life : NodeState) → replica_of (set_life w p life) p ≡ running life
-set-runs w p life =
-    ap (λ (o : Option Node). option_and_then (λ s. running s.life) o)
-    (node_of-set w p life p ∙ cond-true (p == p) (Some (let s : Node = record { id = p; life = life } in s)) (node_of w p) (eq-eqb p p refl))
-
 -- the event of a request to this replica
 module _ (w : World) (p : ℕ) (kind : Kind) (r : Replica) (disk : Disk) (node : node_of w p ≡ Some (up_node p r disk)) (mine : r.held.id ≡ p) (creating : is_creating r.state ≡ true) where
   abbrev t : Turn
@@ -75,8 +71,8 @@ module _ (w : World) (p : ℕ) (kind : Kind) (r : Replica) (disk : Disk) (node :
 
   ended-made : (e : EventEnd) → (let m = ended (after_event (quietly w) p t e) in IsMade p kind m.world m.entry.made)
   unfolding ended
-  ended-made (Runs x d) = MadeOne x (set-runs w p (Up x d)) (suc (created r.held)) (made-in r kind creating ∙ ap (λ n. one_made n (suc (created r.held)) kind ∷ []) mine)
-  ended-made (Crashes d green) = MadeNone (set-runs w p (Down d green)) refl
+  ended-made (Runs x d) = MadeOne x (replica_of-set w p (Up x d)) (suc (created r.held)) (made-in r kind creating ∙ ap (λ n. one_made n (suc (created r.held)) kind ∷ []) mine)
+  ended-made (Crashes d green) = MadeNone (replica_of-set w p (Down d green)) refl
 
   asked-made : (let m = ended (hand (quietly w) p (AsksOf kind)) in IsMade p kind m.world m.entry.made)
   unfolding hand

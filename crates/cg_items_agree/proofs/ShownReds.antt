@@ -13,7 +13,6 @@ use Rattle.cg_client.specs.Replica.{Held, Replica, created}
 use Rattle.cg_disk_records.specs.RunMarkLaws.{run-names}
 use Rattle.cg_base.specs.Lists.{Each}
 use Rattle.cg_base.specs.EachLaws.{Each-front}
-use Rattle.cg_model.specs.Attempts.{held_in}
 use Rattle.cg_model.specs.Chronicle.{Chronicle}
 use Rattle.cg_model.specs.FactsBooks.{IsActionShown, KeepsUnshown, MadeFits, NodeIsDown, NodeShown, OrderFits}
 use Rattle.cg_model.specs.FactsReplica.{AreBooked}
@@ -21,17 +20,10 @@ use Rattle.cg_model.specs.Looks.{on_disk}
 use Rattle.cg_model.specs.Played.{StandsBeside}
 use Rattle.cg_model.specs.World.{Down, Node, NodeState, Up, World, has_begun, node_of, replica_of, running}
 use Rattle.cg_queue.specs.Queue.{names_of}
+use Rattle.cg_agree_lemmas.specs.Looking.{core-there}
 
 abbrev pub AreLow : World → List Action → Type 0
 AreLow w list = Each (λ (a : Action). a.id.index ≤ index_in w.made a.id.creator) list
-
-core-there : (o : Option Node) (r : Replica) → option_and_then (λ s. running s.life) o ≡ Some r →
-    option_map (λ s. held_in s.life) o ≡ Some r.held
-core-there None r e = absurd (let clash : None ≡ Some r = e in cc)
-core-there (Some s) r e = life s.life e where
-  life : (l : NodeState) → running l ≡ Some r → Some (held_in l) ≡ Some r.held
-  life (Up x disk) e = ap (option_map (λ (r : Replica). r.held)) e
-  life (Down disk green) e = absurd (let clash : None ≡ Some r = e in cc)
 
 module _ (c : Chronicle) (w : World) (stands : StandsBeside c w) (fits : MadeFits w) (order : OrderFits c w) where
   -- an action of the book is counted by it

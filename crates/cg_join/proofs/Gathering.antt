@@ -26,12 +26,9 @@ use Rattle.cg_join.specs.Limits.{IsPart}
 use Rattle.cg_join.specs.Snapshot.{head_of, parts_of, joined_from}
 use Rattle.cg_join.proofs.PartLists.{Each-push}
 use Rattle.cg_client.specs.Joined.{joiner_content, joined_queue}
+use Rattle.cg_db.specs.AscendingLaws.{EachBefore}
 
 -- ---- entries that ascend, put one after another
-
-abbrev EachBefore : List ℕ → List DbEntry → Type 0
-EachBefore key [] = Unit {0}
-EachBefore key (e ∷ db) = (text_before e.key key ≡ true) × EachBefore key db
 
 put-last : (db : List DbEntry) (e : DbEntry) → EachBefore e.key db → put db e.key e.value ≡ db ++ e ∷ []
 put-last [] e before = refl

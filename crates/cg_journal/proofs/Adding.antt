@@ -4,7 +4,7 @@ use Rattle.std.proofs.lemmas.List.{take_at, drop_at, drop_more, append-nil, get_
 use Rattle.cg_disk.specs.Writes.{Torn, overwritten}
 use Rattle.cg_codec.specs.Fields.{number32}
 use Rattle.cg_journal.specs.Records.{header, framed, spelled, AreShort, HasRecords}
-use Rattle.cg_journal.proofs.Reading.{length-number32}
+use Rattle.cg_codec.specs.PlainLaws.{length-number32}
 
 -- the front of a side up to the gate behind its records
 abbrev front : List (List ℕ) → List ℕ

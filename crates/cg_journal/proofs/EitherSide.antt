@@ -98,9 +98,6 @@ newer_ends side end bodies front has short =
     let on : HasRecords side end bodies = subst (λ (l : List ℕ). HasRecords l end bodies) same has in
     record { bodies = bodies; has = on; short = omega (arith, end_within side end bodies on, short) }
 
-pub not_newer : (side : List ℕ) → version_of (take 8 side) ≡ 0 → take 8 side ≡ header → ⊥
-not_newer side none front = let two = sym (ap version_of front) ∙ none in cc
-
 -- ---- its head
 
 pub head_of : (side : List ℕ) (gate end : ℕ) (bodies : List (List ℕ)) → 9 ≤ length side → gate ≡ get_or side 8 gate → HasRecords (slice_set side 7 50) end bodies → length side < 2 ^ 63 → IsHead side (record { is_open = gate == 1; end = end })

@@ -10,8 +10,9 @@ use Rattle.std.proofs.lemmas.Bool.{cases_lt}
 use Rattle.std.proofs.lemmas.Bool.Decides.{nat_tests}
 use Rattle.cg_codec.specs.Fields.{number32}
 use Rattle.cg_journal.specs.Records.{header, number_at, spelled, AreShort, HasRecords, body_and, bodies_from, bodies_of}
-use Rattle.cg_journal.proofs.Reading.{body_here, length-number32, number_at-number32, from_header}
+use Rattle.cg_journal.proofs.Reading.{body_here, number_at-number32, from_header}
 use Rattle.cg_journal.proofs.Adding.{spelled-push, short-push}
+use Rattle.cg_codec.specs.PlainLaws.{length-number32}
 
 -- the number that four bytes spell
 pub four_bytes : (bytes : List ℕ) → 4 ≤ length bytes → from_be_bytes w32 (get_or bytes 0 0 ∷ get_or bytes 1 0 ∷ get_or bytes 2 0 ∷ get_or bytes 3 0 ∷ []) ≡ number_at bytes

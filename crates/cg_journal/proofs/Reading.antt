@@ -7,10 +7,7 @@ use Rattle.std.proofs.lemmas.Nat.{from_be_bytes-to_be_bytes_4}
 use Rattle.std.proofs.lemmas.Bool.Decides.{nat_tests}
 use Rattle.cg_codec.specs.Fields.{number32}
 use Rattle.cg_journal.specs.Records.{header, number_at, spelled, AreShort, HasRecords, body_and, bodies_from, bodies_of}
-
-pub length-number32 : (n : ℕ) → length (number32 n) ≡ 4
-unfolding number32
-length-number32 n = refl
+use Rattle.cg_codec.specs.PlainLaws.{length-number32}
 
 pub number_at-number32 : (n : ℕ) (more : List ℕ) → n < 2 ^ 32 → number_at (number32 n ++ more) ≡ n
 unfolding number32 number_at

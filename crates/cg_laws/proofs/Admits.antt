@@ -1,5 +1,5 @@
 -- No test refuses an event, where those whom it names stand as they should.
-use Rattle.std.proofs.Common.{◌≡◌, ℕ, ◌<◌, Bool, true, false, not, ◌&&◌, List, [], ◌∷◌, find, map, Option, Some, None, is_some, option_and_then, option_map, refl, sym, ap, ap₂, ◌∙◌, eq-eqb, arith, ◌||◌}
+use Rattle.std.proofs.Common.{◌≡◌, ℕ, ◌<◌, Bool, true, false, not, ◌&&◌, List, [], ◌∷◌, map, Option, Some, None, is_some, option_and_then, option_map, refl, sym, ap, ap₂, ◌∙◌, eq-eqb, arith, ◌||◌}
 use Rattle.std.specs.Prelude.{◌==◌, IfSome}
 use Rattle.std.specs.Option.{option_map_or}
 use Rattle.std.proofs.lemmas.Bool.{cond-false, ne_eqb, or_right}

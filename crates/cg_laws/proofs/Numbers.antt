@@ -1,25 +1,22 @@
 -- Numbers are told apart before anything that begins with no digit.
 use Rattle.std.proofs.Common.{◌≡◌, ℕ, suc, ◌<◌, Bool, true, false, not, eqb, List, [], ◌∷◌, ◌++◌, length, refl, sym, ap, ◌∙◌, arith, rules, true≢false}
-use Rattle.std.specs.Prelude.{fold, ℤ, pos, negsuc, decimal}
+use Rattle.std.specs.Prelude.{ℤ, pos, negsuc, decimal}
 use Rattle.std.proofs.lemmas.Bool.{eqb-true}
 use Rattle.std.specs.Fmt.{signed_decimal}
 use Rattle.std.specs.List.{list_all}
 use Rattle.std.specs.Str.Parse.{digits_value}
-use Rattle.std.proofs.lemmas.Str.Parse.{IsNumeralModel, numerals_by_fold}
 use Rattle.std.proofs.lemmas.Fmt.{decimal_is_IsNumeral_wide}
-use Rattle.cg_text.specs.Numbers.{is_digit, with_digit}
+use Rattle.cg_text.specs.Numbers.{is_digit}
 use Rattle.cg_short.specs.Short.{IsShort, IsShortInt}
 use Rattle.cg_laws.proofs.Separating.{Separates, begins_without, one, same_first, other_first, left_true, right_true}
-
-own : IsNumeralModel (λ digits. list_all is_digit digits ≡ true) (λ digits. fold with_digit 0 digits)
-own = numerals_by_fold _ (search rules) (λ n digits. fold with_digit n digits) (search rules)
+use Rattle.cg_text.specs.NumberLaws.{digits_are_numerals}
 
 -- no digit comes first
 abbrev pub no_digit : List ℕ → Bool
 no_digit u = begins_without is_digit u
 
 all-digits : (n : ℕ) → IsShort n → list_all is_digit (decimal n) ≡ true
-all-digits n short = own.from (decimal n) (decimal_is_IsNumeral_wide n short).0.1
+all-digits n short = digits_are_numerals.from (decimal n) (decimal_is_IsNumeral_wide n short).0.1
 
 -- what is printed begins with a digit
 pub begins-digit : (n : ℕ) → IsShort n → (digit : ℕ) × (digits : List ℕ) × (decimal n ≡ digit ∷ digits) × (is_digit digit ≡ true)

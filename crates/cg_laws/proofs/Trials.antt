@@ -1,7 +1,6 @@
 -- The lines of a generated schedule come to its end, or to the limit of steps.
 use Rattle.std.proofs.Common.{◌≡◌, ℕ, zero, suc, ◌+◌, ◌<◌, ◌≤◌, ◌-◌, ◌++◌, true, List, [], ◌∷◌, fold, length, length-append, Option, Some, None, option_map, option_and_then, Result, Ok, Err, Bool, false, cond, refl, sym, ap, subst, ◌∙◌, arith, codes}
 use Rattle.std.specs.Str.{is_utf8}
-use Rattle.std.proofs.lemmas.Bool.{le-ltb}
 use Rattle.cg_base.specs.Sets.{IsId}
 use Rattle.cg_text.specs.Tokens.{tokens, tokens_from}
 use Rattle.cg_base.specs.Lists.{Each}
@@ -29,6 +28,7 @@ use Rattle.cg_laws.specs.Admitted.{GeneratedAreAdmitted, IsEndOrLimit, TrialsAre
 use Rattle.cg_laws.proofs.Playing.{IsFree, all-free, IsSpared, IsAt, Follows, Follows-happened}
 use Rattle.cg_laws.proofs.Spelling.{as-it-is, pieces-are}
 use Rattle.cg_laws.proofs.Within.{generated-within, state_past, generated-ends}
+use Rattle.cg_outcome.specs.LimitLaws.{limit_of-none}
 
 -- ---- a line that reads as an event
 
@@ -135,9 +135,6 @@ pub trials-end : ArePrinted → GeneratedAreAdmitted → TrialsEnd
 trials-end printed admitted seed replicas lines is some taken how =
     has-status (performed 0 (generated seed replicas lines) (before_all Alone)) (schedule-ends printed seed replicas lines is some (admitted seed replicas lines is))
 
-none-passed : (n len end : ℕ) → len ≤ 32768 → end ≤ 8388608 → n ≤ 200000 → limit_of n len end ≡ None
-none-passed n len end short within few = rw (le-ltb 32768 len short, le-ltb 8388608 end within, le-ltb 200000 n few) refl
-
 -- lines that pass no limit of an input come to what they come to without these limits
 lines-perform : (events : List Event) (gone at : ℕ) (s : Progress) → gone + length events ≤ 200000 → at + length (lines_of events) ≤ 8388608 → Each (λ e. length (line_of e) ≤ 32768) events →
     replayed (gone + 1) at (lines_alone events) Ended s ≡ performed gone events s
@@ -148,7 +145,7 @@ lines-perform (e ∷ events) gone at s few small short =
     let p = line_played n e s in
     let more = replayed (n + 1) (at + length line + 1) (lines_alone events) Ended in
     let size : length (lines_of (e ∷ events)) ≡ length line + 1 + length (lines_of events) = omega (arith, length-append (line ++ 10 ∷ []) (lines_of events), length-append line (10 ∷ [])) in
-    let none : limit_of n (length line) (at + length line + 1) ≡ None = none-passed n (length line) (at + length line + 1) short.0 (omega (arith, small, size)) (omega (arith, few)) in
+    let none : limit_of n (length line) (at + length line + 1) ≡ None = limit_of-none n (length line) (at + length line + 1) short.0 (omega (arith, small, size)) (omega (arith, few)) in
     let rest : (s' : Progress) → more s' ≡ performed n events s' =
     λ s'. lines-perform events n (at + length line + 1) s' (omega (arith, few)) (omega (arith, small, size)) short.1 in
     let first : and_then (whole_line n at line s) more ≡ and_then p more = ap (λ o. and_then (unless_passed o n s p) more) none in

@@ -4,12 +4,10 @@ use Rattle.std.specs.Prelude.{◌==◌, nat_lt, pos, FitsSigned}
 use Rattle.std.specs.Int.{w64}
 use Rattle.std.specs.List.{prefix_len}
 use Rattle.std.specs.Option.{unwrap_or}
-use Rattle.std.specs.Str.{IsUtf8}
 use Rattle.std.proofs.lemmas.Bool.{cond_both, le-ltb, ne_eqb}
 use Rattle.std.proofs.lemmas.Int.{fits_signed_from_abs}
 use Rattle.std.proofs.lemmas.List.Elements.{All-nil, All-cons}
-use Rattle.std.proofs.lemmas.Str.{IsUtf8-append, IsUtf8-nil, IsUtf8-encode, encode_ascii}
-use lib.Utf8.{low_scalar}
+use Rattle.std.proofs.lemmas.Str.{IsUtf8-nil}
 use Rattle.cg_base.specs.Lists.{count_up, Each}
 use Rattle.cg_base.specs.Sets.{IsId, IsSet, Ascends, has, with_member, without_member, union}
 use Rattle.cg_base.specs.SetLaws.{Ascends-with_member, Ascends-union, Ascends-filter}

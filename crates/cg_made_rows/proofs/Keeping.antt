@@ -21,7 +21,7 @@ use Rattle.cg_relaxed.specs.RelaxedState.{RelaxedState, seen}
 use Rattle.cg_made_rows.specs.Kept.{no_action, made_in, IsPlaced, ArePlaced, IsFrom, AreKept}
 use Rattle.cg_made_rows.specs.Rows.{with_made}
 use Rattle.cg_made_rows.proofs.Cells.{name, index-within, flat_map-same}
-use Rattle.cg_made_rows.proofs.Growing.{row-same, row-other}
+use Rattle.cg_made_rows.specs.RowLaws.{row-same, row-other}
 
 -- ---- one more in a row
 

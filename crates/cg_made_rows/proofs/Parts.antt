@@ -1,9 +1,9 @@
 -- Numbers of replicas and keys between quotes, as parts of a line.
-use Rattle.std.proofs.Common.{◌≡◌, ℕ, ◌^◌, ◌<◌, ◌≤◌, true, cond, List, [], ◌∷◌, ◌++◌, length, Result, Ok, Err, refl, ap, ◌∙◌, arith}
-use Rattle.std.specs.Prelude.{decimal, nat_le, ◌&&◌}
+use Rattle.std.proofs.Common.{◌≡◌, ℕ, ◌^◌, ◌<◌, ◌≤◌, true, List, [], ◌∷◌, ◌++◌, length, Result, Ok, Err, refl, ap, ◌∙◌, arith}
+use Rattle.std.specs.Prelude.{decimal, nat_le}
 use Rattle.std.specs.Fmt.{digits}
 use Rattle.std.specs.Str.{IsUtf8}
-use Rattle.std.proofs.lemmas.Bool.{leb-true, le-leb, and_parts}
+use Rattle.std.proofs.lemmas.Bool.{leb-true, le-leb}
 use Rattle.cg_base.specs.Replicas.{every_replica}
 use Rattle.cg_base.specs.Sets.{IsId}
 use Rattle.cg_base.specs.SetLaws.{each-replica}
@@ -15,13 +15,15 @@ use Rattle.cg_text.specs.Quoted.{quoted, read_quoted}
 use Rattle.cg_text.specs.Tokens.{is_blank, is_word, ends_word, tokens}
 use Rattle.cg_schedule.specs.declared.fault.LineFault.{LineFault}
 use Rattle.cg_schedule.specs.Command.{key_part}
-use Rattle.cg_schedule.specs.Fault.{bad_number, bad_text}
+use Rattle.cg_schedule.specs.Fault.{bad_text}
 use Rattle.cg_schedule.specs.Limits.{IsPrintable}
-use Rattle.cg_schedule.specs.Part.{in_range, long_enough, number, text, id_part, text_part}
-use Rattle.cg_schedule.specs.Reading.{Reading, go_on, ◌>>=◌, lifted, ended, whole}
+use Rattle.cg_schedule.specs.Part.{long_enough, number, text, id_part, text_part}
+use Rattle.cg_schedule.specs.Reading.{Reading, go_on, ◌>>=◌, ended, whole}
 use Rattle.cg_made_rows.specs.declared.relaxed_event.RelaxedEvent.{RelaxedEvent}
 use Rattle.cg_base.specs.ListLaws.{same_cons}
 use Rattle.cg_base.specs.ResultLaws.{cond_ok}
+use Rattle.cg_schedule.specs.PartLaws.{lifted-ok}
+use Rattle.cg_schedule.specs.NumberLaws.{in_range-ok}
 
 -- the laws of numbers, of texts and of tokens
 pub record Known : Type 0 where
@@ -36,33 +38,13 @@ pub record Known : Type 0 where
 
 -- ---- what was read of one token
 
-in_range-ok : (r : Result ℕ TextFault) (n : ℕ) → in_range 1 32 r ≡ Ok n → (r ≡ Ok n) × IsId n
-in_range-ok (Ok m) n e =
-    let g = cond_ok (nat_le 1 m && nat_le m 32) m n bad_number e in
-    let tests = and_parts (nat_le 1 m) (nat_le m 32) g.0 in
-    (ap (λ (k : ℕ). Ok k) g.1, rw (← g.1) (leb-true 1 m tests.0, leb-true m 32 tests.1))
-in_range-ok (Err fault) n e = absurd cc
-
 long_enough-ok : (r : Result (List ℕ) TextFault) (t : List ℕ) → long_enough 1 r ≡ Ok t → (r ≡ Ok t) × (1 ≤ length t)
 long_enough-ok (Ok u) t e =
     let g = cond_ok (nat_le 1 (length u)) u t bad_text e in
     (ap (λ (v : List ℕ). Ok v) g.1, rw (← g.1) (leb-true 1 (length u) g.0))
 long_enough-ok (Err fault) t e = absurd cc
 
--- what was given is told by the answer
-abbrev given : {X : Type 0} → X → Result X LineFault
-given x = Ok x
-
-same_given : {X : Type 0} (x y : X) → given x ≡ given y → x ≡ y
-same_given x y e = cc
-
-lifted-ok : {X : Type 0} (r : Result X LineFault) (left : List (List ℕ)) (x : X) (new : List (List ℕ)) →
-    lifted r left ≡ Ok (x, new) → (r ≡ Ok x) × (left ≡ new)
-lifted-ok {X} (Ok y) left x new e =
-    let pair : (y, left) ≡ (x, new) = same_given (y, left) (x, new) e in
-    (ap (λ (p : X × List (List ℕ)). Ok p.0) pair, ap (λ (p : X × List (List ℕ)). p.1) pair)
-lifted-ok (Err fault) left x new e = absurd cc
-
+-- what was read_as is told by the answer
 -- a part was read: it is spelled by the first token
 record Found {X : Type 0} (Is : X → Type 0) (spelling : X → List ℕ) (ts : List (List ℕ)) (x : X) (left : List (List ℕ))
     : Type 0 where
@@ -76,7 +58,7 @@ module _ (known : Known) where
   id_found [] n left e = absurd cc
   id_found (t ∷ ts) n left e =
       let l = lifted-ok (number 1 32 t) ts n left e in
-      let r = in_range-ok (read_u64 t) n l.0 in
+      let r = in_range-ok 1 32 (read_u64 t) n l.0 in
       record { within = r.1; first = same_cons t (decimal n) ts left (known.numbers.found t n r.0).1 l.1 }
 
   id_again : (n : ℕ) (left : List (List ℕ)) → IsId n → id_part (decimal n ∷ left) ≡ Ok (n, left)

@@ -4,3 +4,4 @@ pub mod Laws
 pub mod Line
 pub mod Print
 pub mod Rows
+pub mod RowLaws

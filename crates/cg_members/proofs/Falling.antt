@@ -1,5 +1,5 @@
 -- No line falls while its server stays.
-use Rattle.std.proofs.Common.{◌≡◌, ℕ, ◌≤◌, ◌≢◌, List, [], ◌∷◌, map, cond, max, min, Bool, true, false, eqb, refl, sym, ap, ◌∙◌, arith, inl, inr}
+use Rattle.std.proofs.Common.{◌≡◌, ℕ, ◌≤◌, ◌≢◌, List, [], ◌∷◌, cond, min, true, false, eqb, refl, sym, ap, ◌∙◌, arith, inl, inr}
 use Rattle.std.proofs.lemmas.Bool.{cases_eq, cases_order, cases_Bool, eq-eqb, ne_eqb, lt-ltb, le-ltb, or_parts, true≢false}
 use Rattle.cg_base.specs.Sets.{has}
 use Rattle.cg_action.specs.declared.action.Kind.{Kind}
@@ -7,9 +7,9 @@ use Rattle.cg_action.specs.declared.action.Kind.TheVariants.{Update, Join, Leave
 use Rattle.cg_action.specs.declared.action.Action.{Action}
 use Rattle.cg_members.specs.declared.server.Server.{Server}
 use Rattle.cg_members.specs.Members.{Members}
-use Rattle.cg_members.specs.Servers.{is_among, is_server, was_ever, with_server, without_server, with_line, with_joiner, departed, after_kind, after_green}
+use Rattle.cg_members.specs.Servers.{is_among, is_server, was_ever, with_server, without_server, with_joiner, departed, after_kind, after_green}
 use Rattle.cg_members.specs.Listed.{line_of}
-use Rattle.cg_members.specs.MemberLaws.{is_among-without, is_among-with_line}
+use Rattle.cg_members.specs.MemberLaws.{is_among-without, is_among-with_line, line_of-raised}
 
 -- ---- the line of another
 
@@ -32,19 +32,6 @@ line_of-without (s ∷ servers) p q apart = elim (cases_eq s.id p) [
 ]
 
 -- ---- the line that is raised
-
-either_way : (b : Bool) (x y m n : ℕ) → x ≤ y → m ≤ n → cond b x m ≤ cond b y n
-either_way true x y m n first second = first
-either_way false x y m n first second = second
-
-line_of-raised : (servers : List Server) (p line q : ℕ) → line_of servers q ≤ line_of (map (with_line p line) servers) q
-line_of-raised [] p line q = omega arith
-line_of-raised (s ∷ servers) p line q =
-    let rest = line_of-raised servers p line q in
-    elim (cases_Bool (eqb s.id p)) [
-      | inl same ↦ rw same (either_way (eqb s.id q) s.line (max s.line line) (line_of servers q) (line_of (map (with_line p line) servers) q) (omega arith) rest)
-      | inr apart ↦ rw apart (either_way (eqb s.id q) s.line s.line (line_of servers q) (line_of (map (with_line p line) servers) q) (omega arith) rest)
-    ]
 
 -- ---- the law
 

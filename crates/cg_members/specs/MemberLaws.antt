@@ -1,5 +1,5 @@
 -- What holds of the members that green actions make.
-use Rattle.std.proofs.Common.{◌≡◌, ℕ, suc, ◌+◌, ◌≤◌, ◌≢◌, ◌||◌, ◌⊎◌, List, [], ◌∷◌, ◌++◌, map, length, min, true, eqb, refl, sym, ap, ◌∙◌, arith, inl, inr}
+use Rattle.std.proofs.Common.{◌≡◌, ℕ, suc, ◌+◌, ◌≤◌, ◌≢◌, ◌||◌, ◌⊎◌, List, [], ◌∷◌, ◌++◌, map, length, min, true, eqb, refl, sym, ap, ◌∙◌, arith, inl, inr, Bool, cond, max, ◌<◌, false}
 use Rattle.std.proofs.lemmas.Bool.{cases_eq, cases_order, cases_Bool, eq-eqb, ne_eqb, eqb-true, lt-ltb, le-ltb, or_parts, or_cases, or_from, true≢false, or_right}
 use Rattle.cg_base.specs.declared.weighted.Weighted.{Weighted}
 use Rattle.cg_base.specs.Sets.{has}
@@ -11,6 +11,9 @@ use Rattle.cg_members.specs.declared.server.Server.{Server}
 use Rattle.cg_members.specs.Members.{Members}
 use Rattle.cg_members.specs.Servers.{is_among, is_server, was_ever, first_line, with_server, without_server, with_line, starting, with_joiner, departed, raise_line, after_kind, after_green, after_greens, members_of}
 use Rattle.cg_members.specs.Laws.{NoLineAbove, AreApart}
+use Rattle.cg_members.specs.Listed.{line_of}
+use Rattle.cg_base.specs.AscendingLaws.{AllBelow}
+use Rattle.cg_members.specs.Listed.{server_ids}
 
 -- ---- one action more
 
@@ -205,3 +208,23 @@ pub members_of-apart : (set : List Weighted) (greens : List Action) → AreApart
 members_of-apart set greens =
     let count : 0 + length greens ≡ length greens = omega arith in
     rw count at (AreApart-after_greens (starting set) 0 greens (AreApart-starting set))
+
+pub with_server-last : (servers : List Server) (n : Server) → AllBelow n.id (server_ids servers) → with_server servers n ≡ servers ++ n ∷ []
+with_server-last [] n below = refl
+with_server-last (m ∷ servers) n below =
+    let lt : m.id < n.id = below.0 in
+    let apart : n.id ≢ m.id = λ e. omega arith in
+    rw (ne_eqb n.id m.id apart, le-ltb n.id m.id (omega arith), with_server-last servers n below.1) refl
+
+pub either_way : (b : Bool) (x y m n : ℕ) → x ≤ y → m ≤ n → cond b x m ≤ cond b y n
+either_way true x y m n first second = first
+either_way false x y m n first second = second
+
+pub line_of-raised : (servers : List Server) (p line q : ℕ) → line_of servers q ≤ line_of (map (with_line p line) servers) q
+line_of-raised [] p line q = omega arith
+line_of-raised (s ∷ servers) p line q =
+    let rest = line_of-raised servers p line q in
+    elim (cases_Bool (eqb s.id p)) [
+      | inl same ↦ rw same (either_way (eqb s.id q) s.line (max s.line line) (line_of servers q) (line_of (map (with_line p line) servers) q) (omega arith) rest)
+      | inr apart ↦ rw apart (either_way (eqb s.id q) s.line s.line (line_of servers q) (line_of (map (with_line p line) servers) q) (omega arith) rest)
+    ]

@@ -15,9 +15,10 @@ use Rattle.cg_disk_records.specs.Holds.{Holds}
 use Rattle.cg_model.specs.Recorded.{AlwaysKept}
 use Rattle.cg_model.proofs.Rows.{IsRule, of-deliveries, of-buffer, of-empty_buffer}
 use Rattle.cg_model.proofs.Knowing.{each-any, holds-rule}
-use Rattle.cg_model.proofs.Steps.{IsKeptByMaking, holds-making, of-settle, of-request_in, any-deliveries, holds-step}
+use Rattle.cg_model.proofs.Steps.{IsKeptByMaking, holds-making, of-settle, of-request_in, holds-step}
 use Rattle.cg_disk_records.specs.HoldsMarkLaws.{known_by}
 use Rattle.cg_disk_records.specs.KnownLaws.{known_all, own-reddened}
+use Rattle.cg_model.specs.RowLaws.{any-deliveries}
 
 -- there are as many greens as at first, and the newly green ones
 record Counts (n : ℕ) (t : Turn) : Type 0 where

@@ -10,7 +10,6 @@ use Rattle.cg_base.specs.Cuts.{index_in, raise}
 use Rattle.cg_base.specs.IdLaws.{same_id-is, same_id-back, same_id-self}
 use Rattle.cg_action.specs.declared.action.Action.{Action}
 use Rattle.cg_queue.specs.Queue.{names_of, with_red, without_action, placed_red, action_of}
-use Rattle.cg_records.specs.declared.primary.Primary.{Primary}
 use Rattle.cg_base.specs.Lists.{Each}
 use Rattle.cg_client.specs.Replica.{Held}
 use Rattle.cg_client.specs.Turn.{Turn}
@@ -28,11 +27,9 @@ use Rattle.cg_model.proofs.Commuting.{greened-to, known-before}
 use Rattle.cg_disk_records.specs.HeldLaws.{after-here}
 use Rattle.cg_disk_records.specs.HoldsMarkLaws.{known_by, own-same, rising-red, green-below, holds-known}
 use Rattle.cg_disk_records.specs.KnownLaws.{fits-next, known_all, own-reddened, holds-own}
+use Rattle.cg_knowledge.specs.Primary.{no_prim}
 
 -- without the values that a record has at any time
-abbrev pub no_prim : Primary
-no_prim = record { index = 0; conf = 0; set = [] }
-
 abbrev pub bare : Held → Stored
 bare h =
     let q = h.queue in

@@ -1,20 +1,15 @@
 -- A whole event: what holds is kept, and its change leads from what stands on the disk to what is held behind it.
 use Rattle.std.proofs.Common.{List, [], ◌∷◌, ◌++◌, fold, Bool, true, false, refl, if◌then◌else◌}
 use Rattle.cg_action.specs.declared.action.Kind.{Kind}
-use Rattle.cg_base.specs.Lists.{Each}
-use Rattle.cg_wire.specs.declared.message.Msg.{Msg}
-use Rattle.cg_wire.specs.declared.message.Msg.TheVariants.{Action as ActionMsg, State as StateMsg, GreenItem, RedItem, Cpc}
-use Rattle.cg_group.specs.declared.delivery.Delivery.{Delivery}
-use Rattle.cg_group.specs.declared.delivery.Delivery.TheVariants.{Message, Transitional as TransitionalIn, Regular as RegularIn}
 use Rattle.cg_client.specs.Replica.{State, RegPrim, TransPrim, ExchangeStates, ExchangeActions, Construct, No, Un, NonPrim, Left, Replica}
 use Rattle.cg_client.specs.Turn.{Turn, begin}
 use Rattle.cg_client.specs.Requests.{is_creating, next_action, create, create_kept, empty_buffer, buffer, settle, request_in}
 use Rattle.cg_states.specs.ReplicaStep.{Input, Deliveries, Asks, after_delivery, replica_step}
 use Rattle.cg_disk_records.specs.Holds.{Holds}
-use Rattle.cg_model.specs.Recorded.{OfMessage, OfDelivery}
 use Rattle.cg_model.proofs.Rows.{of-deliveries, of-buffer, of-empty_buffer}
 use Rattle.cg_model.proofs.Knowing.{HoldsIn, holds-rule}
 use Rattle.cg_disk_records.specs.HoldsValueLaws.{holds-made}
+use Rattle.cg_model.specs.RowLaws.{any-deliveries}
 
 -- ---- what a turn with own actions made keeps
 
@@ -66,22 +61,6 @@ holds-making = record {
   buffers = λ t kind is. of-buffer HoldsIn (λ a. Unit {0}) holds-rule t kind is;
   empties = λ t is. of-empty_buffer HoldsIn (λ a. Unit {0}) holds-rule t is;
 }
-
-any-message : (m : Msg) → OfMessage (λ a. Unit {0}) m
-any-message (ActionMsg a) = tt
-any-message (StateMsg s) = tt
-any-message (GreenItem place a) = tt
-any-message (RedItem a) = tt
-any-message (Cpc id conf) = tt
-
-any-delivery : (d : Delivery Msg) → OfDelivery (λ a. Unit {0}) d
-any-delivery (Message place from m) = any-message m
-any-delivery (TransitionalIn conf set) = tt
-any-delivery (RegularIn conf set) = tt
-
-pub any-deliveries : (list : List (Delivery Msg)) → Each (OfDelivery (λ a. Unit {0})) list
-any-deliveries [] = tt
-any-deliveries (d ∷ list) = (any-delivery d, any-deliveries list)
 
 pub holds-step : (r : Replica) (input : Input) → Holds r.held → Holds (replica_step r input).replica.held
 unfolding replica_step

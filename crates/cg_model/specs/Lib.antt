@@ -44,3 +44,5 @@ pub mod MadeLaws
 pub mod RunLaws
 pub mod RowLaws
 pub mod Computing
+pub mod MadeRowLaws
+pub mod ShowLaws

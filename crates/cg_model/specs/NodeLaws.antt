@@ -1,8 +1,8 @@
 -- Nodes stay: a start that is admitted begins a replica, and whoever has begun has begun behind every event.
-use Rattle.std.proofs.Common.{◌≡◌, ℕ, zero, suc, ◌+◌, ◌<◌, min, Bool, true, false, cond, List, [], ◌∷◌, ◌++◌, fold, filter, find, is_some, map, length, Option, Some, None, refl, ap, subst, arith, eqb-true, eq-eqb, nat_lt, if◌then◌else◌, sym, ◌∙◌}
+use Rattle.std.proofs.Common.{◌≡◌, ℕ, zero, suc, ◌+◌, ◌<◌, min, Bool, true, false, cond, List, [], ◌∷◌, ◌++◌, fold, filter, find, is_some, map, length, Option, Some, None, refl, ap, subst, arith, eqb-true, eq-eqb, nat_lt, if◌then◌else◌, sym, ◌∙◌, ◌&&◌}
 use Rattle.std.specs.Prelude.{◌==◌}
 use Rattle.std.specs.Option.{option_map_or}
-use Rattle.std.proofs.lemmas.Bool.{cond_both, ne_eqb, eqb-false}
+use Rattle.std.proofs.lemmas.Bool.{cond_both, ne_eqb, eqb-false, and_parts}
 use Rattle.cg_base.specs.declared.weighted.Weighted.{Weighted}
 use Rattle.cg_base.specs.Weights.{ids}
 use Rattle.cg_base.specs.ChoiceLaws.{chosen}
@@ -14,12 +14,11 @@ use Rattle.cg_group.specs.Events.{split, merge, deliver}
 use Rattle.cg_group.specs.declared.reason.Reason.TheVariants.{EmptySet}
 use Rattle.cg_group.specs.Refusals.{empty_set}
 use Rattle.cg_client.specs.Replica.{Replica}
-use Rattle.cg_client.specs.Turn.{Turn}
-use Rattle.cg_states.specs.ReplicaStep.{Input, Deliveries, Asks as AsksOf, replica_step}
-use Rattle.cg_disk_records.specs.Crash.{FailOnce, StopWith, Strike, EventEnd, Runs, Crashes, end_event, new_disk}
+use Rattle.cg_states.specs.ReplicaStep.{Input, Deliveries, Asks as AsksOf}
+use Rattle.cg_disk_records.specs.Crash.{FailOnce, StopWith, Strike, new_disk}
 use Rattle.cg_schedule.specs.declared.event.Event.{Event}
 use Rattle.cg_schedule.specs.declared.event.Event.TheVariants.{Start, Split, Merge, Request, Weak, Dirty, Order, Recover, RecoverStopped, Downgrade, Show, ShowOrder, Gather, End, Receive, Deliver, Rounds, Stop, Fail, Join, Leave, Transfer}
-use Rattle.cg_model.specs.World.{NodeState, Up, Down, Node, TransferState, World, running, node_of, at_node, has_begun, replica_of, up_replicas, with_node, set_life, bring_up, bring_down}
+use Rattle.cg_model.specs.World.{NodeState, Node, TransferState, World, running, node_of, at_node, has_begun, replica_of, up_replicas, with_node, set_life, bring_up, bring_down}
 use Rattle.cg_model.specs.Admission.{first_refusal}
 use Rattle.cg_model.specs.Show.{EventEffects, StepInProgress, ended}
 use Rattle.cg_model.specs.Step.{quietly, taken, comes_back, hand, hand_over, name_also, begin_replica, armed, crashed, risen, recover, stays_down, recover_under, downgraded, joiner_replica, snapshot_for, without_snapshot, takes, transfer, happens, world_step}
@@ -27,6 +26,7 @@ use Rattle.cg_model.specs.AtNode.{comes_up, take_pieces}
 use Rattle.cg_model.specs.Run.{MayStand}
 use Rattle.cg_client.specs.Joined.{piece_count}
 use Rattle.cg_group.specs.LookupLaws.{at-cond}
+use Rattle.cg_base.specs.FindLaws.{found_passes}
 
 -- ---- the node that is found
 
@@ -249,3 +249,13 @@ up_there (s ∷ nodes) all on =
 -- the replicas that are up have begun
 pub up_begun : (w : World) → Each (λ q. has_begun w q ≡ true) (up_replicas w)
 up_begun w = up_there w.nodes w.nodes (λ q is. is)
+
+pub snapshot-joiner : (w : World) (p joiner : ℕ) (r : Replica) → (snapshot_for w p joiner r).joiner ≡ joiner
+snapshot-joiner w p joiner r = at (find (λ s. (s.joiner == joiner) && (s.giver == p)) w.snapshots) refl where
+  new : TransferState
+  new = record { joiner = joiner; giver = p; content = r.held; taken = 0 }
+
+  at : (o : Option TransferState) → find (λ s. (s.joiner == joiner) && (s.giver == p)) w.snapshots ≡ o → (option_map_or (λ s. s) o new).joiner ≡ joiner
+  at None e = refl
+  at (Some s) e =
+      eqb-true s.joiner joiner (and_parts (s.joiner == joiner) (s.giver == p) (found_passes (λ (s : TransferState). (s.joiner == joiner) && (s.giver == p)) w.snapshots s e)).0

@@ -336,3 +336,19 @@ module _ (P : Turn → Type 0) (Fine : Action → Type 0) (rule : IsRowRule P Fi
   pub of-deliveries : (t : Turn) (list : List (Delivery Msg)) → Each (OfDelivery Fine) list → P t → P (fold after_delivery t list)
   of-deliveries t [] fine p = p
   of-deliveries t (d ∷ list) fine p = of-deliveries (after_delivery t d) list fine.1 (of-take t d fine.0 p)
+
+pub any-message : (m : Msg) → OfMessage (λ a. Unit {0}) m
+any-message (ActionMsg a) = tt
+any-message (StateMsg s) = tt
+any-message (GreenItem place a) = tt
+any-message (RedItem a) = tt
+any-message (Cpc id conf) = tt
+
+pub any-delivery : (d : Delivery Msg) → OfDelivery (λ a. Unit {0}) d
+any-delivery (Message place from m) = any-message m
+any-delivery (TransitionalIn conf set) = tt
+any-delivery (RegularIn conf set) = tt
+
+pub any-deliveries : (list : List (Delivery Msg)) → Each (OfDelivery (λ a. Unit {0})) list
+any-deliveries [] = tt
+any-deliveries (d ∷ list) = (any-delivery d, any-deliveries list)

@@ -3,11 +3,11 @@ use Rattle.std.proofs.Common.{◌≡◌, List, [], ◌∷◌, ◌++◌, map, ref
 use Rattle.std.proofs.lemmas.List.{map-append}
 use Rattle.cg_base.specs.ElementLaws.{flat-append}
 use Rattle.cg_report.specs.declared.entry.Placed.{Placed}
-use Rattle.cg_model.specs.World.{World}
+use Rattle.cg_model.specs.World.{World, no_world}
 use Rattle.cg_model.specs.Run.{Step, IsRunFrom, world_after}
 use Rattle.cg_model.specs.Agreement.{through}
 use Rattle.cg_model.specs.Shown.{order_of, order_lines}
-use Rattle.cg_model.specs.Chronicle.{Chronicle}
+use Rattle.cg_model.specs.Chronicle.{Chronicle, no_chronicle}
 use Rattle.cg_model.specs.Noting.{chronicle_step, chronicle_after}
 
 pub front-run : (w : World) (xs ys : List Step) → IsRunFrom w (xs ++ ys) → IsRunFrom w xs
@@ -31,3 +31,9 @@ pub order-append : (a b : List Step) → order_of (a ++ b) ≡ order_of a ++ ord
 order-append a b =
     ap (map (λ (o : Placed). o.id)) (flat-append (λ (s : Step). s.entry.orders) a b)
     ∙ map-append (λ (o : Placed). o.id) (order_lines a) (order_lines b)
+
+abbrev pub world_of : List Step → World
+world_of steps = world_after no_world steps
+
+abbrev pub chronicle_of : List Step → Chronicle
+chronicle_of steps = chronicle_after no_chronicle no_world steps

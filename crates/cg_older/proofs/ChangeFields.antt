@@ -1,10 +1,8 @@
 -- A change as a field, by its four parts; and what is said of it in the newer format.
-use Rattle.std.proofs.Common.{◌≡◌, ◌≢◌, ℕ, List, ◌++◌, Result, Ok, Err, refl, sym, ap, ◌∙◌}
+use Rattle.std.proofs.Common.{◌≡◌, ℕ, List, ◌++◌, Result, Ok, Err, refl, sym, ap, ◌∙◌}
 use Rattle.std.specs.Prelude.{Some, None, IfOk}
 use Rattle.cg_base.specs.Lists.{Each}
 use Rattle.cg_codec.specs.declared.fault.CodecFault.{CodecFault}
-use Rattle.cg_codec.specs.declared.fault.CodecFault.TheVariants.{Short, Bad, Rest, NoMemory}
-use Rattle.cg_codec.specs.Fault.{codec_fault_number}
 use Rattle.cg_codec.specs.Fields.{list, spelled_id}
 use Rattle.cg_codec.specs.Reading.{Reading, ◌>>=◌, done, whole}
 use Rattle.cg_codec.specs.Taking.{Decodes}
@@ -23,8 +21,9 @@ use Rattle.cg_disk_records.specs.Reading.{ids_reading}
 use Rattle.cg_older.specs.Bytes.{spelled_old_stable, spelled_old_change}
 use Rattle.cg_older.specs.Older.{old_change_in}
 use Rattle.cg_older.specs.Reading.{old_stable_reading, old_actions_reading, old_change_reading}
-use Rattle.cg_older.proofs.ListFields.{ExactActions, AreLightActions, AreIds, actions_field, ids_field}
+use Rattle.cg_older.proofs.ListFields.{ExactActions, AreLightActions, actions_field}
 use Rattle.cg_older.proofs.StableFields.{IsLightStable, stable_field}
+use Rattle.cg_disk_records.specs.ListLaws.{ids_field, AreIds}
 
 -- a change that the older format has
 pub record IsLightChange (c : Change) : Type 0 where
@@ -72,10 +71,3 @@ change-same body bytes c again read spelled = ap change_in spelled ∙ again ∙
 pub change-none : (body : List ℕ) (fault : CodecFault) → whole old_change_reading body ≡ Err fault → old_change_in body ≡ None
 unfolding old_change_in
 change-none body fault read = ap read_value read
-
--- a fault that has a number is one of the bytes
-pub numbered : (fault : CodecFault) (n : ℕ) → codec_fault_number fault ≡ Some n → fault ≢ NoMemory
-numbered (Short at) n e = λ is. cc
-numbered (Bad at) n e = λ is. cc
-numbered (Rest at) n e = λ is. cc
-numbered NoMemory n e = absurd cc

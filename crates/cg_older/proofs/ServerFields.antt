@@ -1,11 +1,10 @@
 -- Members as fields, and the loop that reads servers.
-use Rattle.std.proofs.Common.{◌≡◌, ◌≢◌, ℕ, suc, ◌<◌, ◌≤◌, false, List, [], ◌∷◌, ◌++◌, length, Ok, ltb, refl, sym, ap, ◌∙◌, arith}
-use Rattle.std.proofs.lemmas.Bool.{ne_eqb, le-ltb, or_parts}
+use Rattle.std.proofs.Common.{◌≡◌, ℕ, suc, ◌<◌, ◌≤◌, false, List, [], ◌∷◌, ◌++◌, length, Ok, ltb, refl, sym, arith}
+use Rattle.std.proofs.lemmas.Bool.{or_parts}
 use Rattle.std.proofs.lemmas.List.{length-map}
 use Rattle.std.specs.List.{list_any}
 use Rattle.cg_base.specs.Sets.{IsSet, Ascends}
 use Rattle.cg_base.specs.SetLaws.{length-Ascends}
-use Rattle.cg_base.specs.AscendingLaws.{AllBelow}
 use Rattle.cg_base.specs.Lists.{Each}
 use Rattle.cg_codec.specs.Fields.{byte, number64, list}
 use Rattle.cg_codec.specs.Reading.{Unread, ◌>>=◌, done, take_list}
@@ -17,17 +16,17 @@ use Rattle.cg_codec.specs.ShapeLaws.{field_two}
 use Rattle.cg_members.specs.declared.server.Server.{Server}
 use Rattle.cg_members.specs.Members.{Members}
 use Rattle.cg_members.specs.Listed.{server_ids, Count}
-use Rattle.cg_members.specs.Servers.{with_server}
 use Rattle.cg_records.specs.Limits.{IsNumber}
 use Rattle.cg_records.specs.Bytes.{spelled_set}
 use Rattle.cg_records.specs.Reading.{take_number, take_id_above, last_of, take_set}
 use Rattle.cg_records.specs.PassedLaws.{id_above-ok}
-use Rattle.cg_records.specs.RecordLaws.{Follows, id_field, number_field, set_field, map-push, last_of-push}
+use Rattle.cg_records.specs.RecordLaws.{Follows, id_field, number_field, set_field}
 use Rattle.cg_older.specs.Bytes.{spelled_old_server}
 use Rattle.cg_disk_records.specs.Limits.{AreMembers}
 use Rattle.cg_older.specs.Reading.{old_server_reading, old_servers_reading, old_members_reading}
 use Rattle.cg_older.specs.Weights.{is_heavy_server}
 use Rattle.cg_older.proofs.Light.{one-weight}
+use Rattle.cg_disk_records.specs.PartLaws.{server-last}
 
 -- ---- a server
 
@@ -49,9 +48,6 @@ server_field last =
 
 abbrev FollowsServers : List Server → Server → Type 0
 FollowsServers taken s = FollowsServer (last_of (server_ids taken)) s
-
-server-last : (taken : List Server) (s : Server) → last_of (server_ids (taken ++ s ∷ [])) ≡ s.id
-server-last taken s = ap last_of (map-push (λ (x : Server). x.id) taken s) ∙ last_of-push (server_ids taken) s.id
 
 -- servers whose weights are 1, from an identifier on
 pub record AreOnce (low : ℕ) (servers : List Server) : Type 0 where
@@ -135,10 +131,3 @@ server-ok last s old new e =
     let second = go_on-ok (take_number first.1) (λ line. done (server_is first.0 line)) s new first.3 in
     let same = given (server_is first.0 second.0) s second.1 new second.3 in
     rw (← same.0) record { above = (id_above-ok last first.0 old first.1 first.2).0; weight = omega arith }
-
-pub with_server-last : (servers : List Server) (n : Server) → AllBelow n.id (server_ids servers) → with_server servers n ≡ servers ++ n ∷ []
-with_server-last [] n below = refl
-with_server-last (m ∷ servers) n below =
-    let lt : m.id < n.id = below.0 in
-    let apart : n.id ≢ m.id = λ e. omega arith in
-    rw (ne_eqb n.id m.id apart, le-ltb n.id m.id (omega arith), with_server-last servers n below.1) refl

@@ -23,6 +23,7 @@ use Rattle.cg_older.specs.Reading.{old_checkpoint_reading}
 use Rattle.cg_older.specs.Weights.{is_heavy_member, is_heavy_server, is_heavy_join}
 use Rattle.cg_older.proofs.CheckpointFields.{AreLightParts}
 use Rattle.cg_older.proofs.ListFields.{AreLightActions}
+use Rattle.cg_disk_records.specs.PartLaws.{parts-within, same_saved}
 
 abbrev pub ExactParts : Type 0
 ExactParts = IsWhole AreParts spelled_parts checkpoint_reading
@@ -63,15 +64,6 @@ newer-told items exact body p are read (Err e) given = tt
 
 -- ---- the parts of a state
 
-pub parts-stored : (generation : ℕ) (s : Stored) → IsNumber generation → IsStored s → AreParts (parts_of generation s)
-parts-stored generation s small is = record {
-  generation = small;
-  stable = is.stable;
-  reached = record { count = is.queue.count; white = (let count = is.queue.count in omega arith); cut = is.queue.green_cut; members = is.members };
-  db = record { short = is.short; entries = is.entries; ascends = is.ascends };
-  kept = record { greens = is.queue.greens; reds = is.queue.reds; own = is.own };
-}
-
 same_parts : (p q : Checkpoint) (r : Result Checkpoint CodecFault) → r ≡ Ok p → r ≡ Ok q → p ≡ q
 same_parts p q r a b = cc
 
@@ -79,7 +71,7 @@ same_parts p q r a b = cc
 pub read-again : ExactParts → (bytes : List ℕ) (s : Stored) (p : Checkpoint) → IsStored s → bytes ≡ spelled_checkpoint 1 s → whole checkpoint_reading bytes ≡ Ok p → p ≡ parts_of 1 s
 unfolding spelled_checkpoint
 read-again exact bytes s p is spelled read =
-    same_parts p (parts_of 1 s) (whole checkpoint_reading bytes) read (ap (whole checkpoint_reading) spelled ∙ exact.again (parts_of 1 s) (parts-stored 1 s (omega arith) is))
+    same_parts p (parts_of 1 s) (whole checkpoint_reading bytes) read (ap (whole checkpoint_reading) spelled ∙ exact.again (parts_of 1 s) (parts-within 1 s (omega arith) is))
 
 -- ---- a state in which no weight is above 1
 
@@ -96,7 +88,7 @@ light-stored generation s small is none =
     let weights = or_parts members servers parts.0 in
     let kept = or_parts (list_any is_heavy_join all) (list_any is_heavy_join s.own) (sym (list_any-append is_heavy_join all s.own) ∙ parts.1) in
     let known = or_parts (list_any is_heavy_join s.queue.greens) (list_any is_heavy_join s.queue.reds) (sym (list_any-append is_heavy_join s.queue.greens s.queue.reds) ∙ kept.0) in
-    let are = parts-stored generation s small is in
+    let are = parts-within generation s small is in
     record {
       generation = small;
       stable = record { is = are.stable; light = weights.0 };
@@ -124,7 +116,7 @@ stands-for : ExactParts → ReadsAgain → (id generation : ℕ) (s : Stored) �
 unfolding checkpoint_in spelled_checkpoint
 stands-for exact reads id generation s small of is agrees =
     let newer = reads id (spelled_checkpoint generation s) generation s (record { spelled = refl; small = small; of = of; is = is; agrees = agrees }) in
-    sym (ap (read_as id) (exact.again (parts_of generation s) (parts-stored generation s small is))) ∙ newer
+    sym (ap (read_as id) (exact.again (parts_of generation s) (parts-within generation s small is))) ∙ newer
 
 pub old-again : ExactParts → ExactOldParts → ReadsAgain → (id generation : ℕ) (s : Stored) → generation < 2 ^ 62 → s.id ≡ id → IsStored s → Agrees s → has_weights s ≡ false
     → old_checkpoint_in id (spelled_old_checkpoint generation s) ≡ Some (saved generation s)
@@ -135,9 +127,6 @@ old-again exact older reads id generation s room of is agrees none =
     ap (read_as_old id) (older.again p (light-stored generation s small is none))
     ∙ ap (λ b. cond b (saved_of id p) None) (lt-ltb generation (2 ^ 62) room)
     ∙ stands-for exact reads id generation s small of is agrees
-
-same_saved : (x y : Saved) → cond true (Some x) None ≡ Some y → x ≡ y
-same_saved x y e = cc
 
 room-saved : (id : ℕ) (p : Checkpoint) (x : Saved) (agree : Bool) → p.generation < 2 ^ 62 → cond agree (Some (saved_in id p)) None ≡ Some x → x.generation < 2 ^ 62
 room-saved id p x true small e = subst (λ n. n < 2 ^ 62) (ap (λ (y : Saved). y.generation) (same_saved (saved_in id p) x e)) small

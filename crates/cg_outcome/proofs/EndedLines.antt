@@ -1,6 +1,6 @@
 -- Where a run is done of which the image of a disk is put, its replica has begun: else the end wouldn't have been admitted.
 use Rattle.std.proofs.Common.{◌≡◌, ℕ, ◌+◌, ◌-◌, List, [], ◌∷◌, length, Option, Some, None, Bool, true, false, cond, not, refl, sym, ap, subst, ◌∙◌, Result, Ok, Err, if◌then◌else◌}
-use Rattle.std.proofs.lemmas.Bool.{and_parts, not-true, false≢true}
+use Rattle.std.proofs.lemmas.Bool.{and_parts, not-true}
 use Rattle.cg_base.specs.Text.{pieces_of}
 use Rattle.cg_group.specs.declared.reason.Reason.{Reason}
 use Rattle.cg_schedule.specs.declared.event.Event.{Event}
@@ -25,7 +25,7 @@ use Rattle.cg_outcome.specs.FurtherLaws.{AreExact}
 use Rattle.cg_outcome.specs.GoingOnLaws.{and_then-none, and_then-some}
 use Rattle.cg_outcome.specs.LineLaws.{is_comparing, line-further}
 use Rattle.cg_outcome.specs.Outcome.{Ending, Ended, Failed, Open, read_outcome, line_outcome, without_return, limit_of, unless_passed, whole_line, at_end, cut_line, last_piece, replayed, outcome_of}
-use Rattle.cg_outcome.specs.Produced.{Progress, Finding, Produced, before_all, status_of, ended_with, prepend, and_then}
+use Rattle.cg_outcome.specs.Produced.{Progress, Finding, Produced, before_all, status_of, ended_with, and_then}
 use Rattle.cg_outcome.specs.Rounds.{ended_unless, happened}
 use Rattle.cg_outcome.specs.SparedLaws.{IsInLine-line, IsInLine-whole, Undone-in_line}
 use Rattle.cg_outcome.specs.Taking.{IsImaged}

@@ -1,14 +1,13 @@
 -- A run that ends by a refusal ends at the line that is refused, and rounds and logs never are refused.
-use Rattle.std.proofs.Common.{◌≡◌, ℕ, zero, suc, ◌+◌, ◌==◌, ◌-◌, nat_lt, List, [], ◌∷◌, ◌++◌, length, Option, Some, None, Bool, true, false, cond, not, refl, sym, ap, ◌∙◌, subst, arith, append_assoc, length-append, Result, Ok, Err, eqb-true, is_some, if◌then◌else◌, ◌⊎◌, inl, inr}
+use Rattle.std.proofs.Common.{◌≡◌, ℕ, zero, suc, ◌+◌, ◌==◌, ◌-◌, nat_lt, List, [], ◌∷◌, ◌++◌, length, Option, Some, None, Bool, true, false, cond, not, refl, sym, ap, ◌∙◌, subst, arith, append_assoc, length-append, Result, Ok, Err, eqb-true, if◌then◌else◌, ◌⊎◌, inl, inr}
 use Rattle.std.specs.List.{prefix_len}
 use Rattle.std.specs.Option.{option_map_or}
 use Rattle.std.proofs.lemmas.Bool.{cond_both, le-ltb, false≢true}
 use Rattle.cg_base.specs.Lists.{count_up, first_some, Each}
 use Rattle.cg_base.specs.Text.{pieces_of, is_nil}
 use Rattle.cg_wire.specs.declared.message.Msg.{Msg}
-use Rattle.cg_group.specs.declared.phase.Phase.TheVariants.{Down}
 use Rattle.cg_group.specs.declared.reason.Reason.{Reason}
-use Rattle.cg_group.specs.State.{GroupState, Standing, no_configuration, standing_of, is_up, is_regular, phase_of, regular_in, configuration, delivered_to}
+use Rattle.cg_group.specs.State.{GroupState, no_configuration, is_regular, phase_of, regular_in, configuration, delivered_to}
 use Rattle.cg_group.specs.Ready.{all_received, ready_in, ready}
 use Rattle.cg_group.specs.Refusals.{deliver_refusal}
 use Rattle.cg_schedule.specs.declared.event.Event.{Event}
@@ -58,6 +57,7 @@ use Rattle.cg_outcome.specs.GoingOnLaws.{and_then-some}
 use Rattle.cg_outcome.specs.LineLaws.{is_comparing, line-log, line-further}
 use Rattle.cg_outcome.proofs.OwnLines.{own-passed}
 use Rattle.cg_outcome.proofs.RunFacts.{Holds, bare, bare-kept, item_made, behind, one_step-reader, Holds-line, Holds-whole_line, Holds-outcome}
+use Rattle.cg_group.specs.RefusalLaws.{regular-up}
 
 -- ---- what is ready may be delivered
 
@@ -77,17 +77,11 @@ regular-ready g p some = at (regular_in (phase_of g p) == 0) refl where
       let none : ready g p ≡ 0 = ap (λ conf. ready_in (configuration g conf) (delivered_to g p)) away ∙ none-ready (delivered_to g p) in
       absurd (let clash : true ≡ false = sym (ap (λ n. n == 0) none) ∙ some in cc)
 
-up-regular : (g : GroupState Msg) (p : ℕ) → is_regular g p ≡ true → is_up g p ≡ true
-up-regular g p = at (standing_of g p) where
-  at : (o : Option (Standing Msg)) → not (regular_in (option_map_or (λ s. s.phase) o Down) == 0) ≡ true → is_some o ≡ true
-  at None e = absurd (let clash : false ≡ true = e in cc)
-  at (Some s) e = refl
-
 deliver-admitted : (w : World) (p : ℕ) → has_begun w p ≡ true → (ready w.group p == 0) ≡ false → first_refusal w (Deliver p (ready w.group p)) ≡ None
 unfolding first_refusal deliver_refusal
 deliver-admitted w p begun some =
     let regular = regular-ready w.group p some in
-    let up = up-regular w.group p regular in
+    let up = regular-up w.group p regular in
     let enough = le-ltb (ready w.group p) (ready w.group p) (omega arith) in
     rw (begun, up, regular, enough) refl
 

@@ -2,7 +2,6 @@
 -- that of the world's tests.
 use Rattle.std.proofs.Common.{◌≡◌, ℕ, zero, suc, ◌+◌, ◌==◌, nat_lt, List, [], ◌∷◌, ◌++◌, length, map, IfSome, if◌then◌else◌, Option, Some, None, Bool, true, false, cond, refl, sym, ap, ◌∙◌, arith, length-append, ◌-◌, subst, not, Result, Ok, Err, ◌<◌}
 use Rattle.std.specs.Option.{option_map_or}
-use mathlib.Core.List.{map-append}
 use Rattle.std.proofs.lemmas.Bool.{and_parts, ltb-true, not-true}
 use Rattle.cg_base.specs.Lists.{present}
 use Rattle.cg_base.specs.Text.{pieces_of}
@@ -55,7 +54,6 @@ use Rattle.cg_outcome.specs.UnderWay.{IsUnderWay}
 use Rattle.cg_outcome.specs.AskedLaws.{may_ask, before_under_way}
 use Rattle.cg_outcome.specs.FurtherLaws.{StandsFor, AreExact, further-own, further-stands, placed_started}
 use Rattle.cg_outcome.specs.GoingOnLaws.{and_then-some}
-use Rattle.cg_base.specs.ElementLaws.{present-append}
 use Rattle.cg_items.specs.ItemLaws.{steps-append}
 
 -- ---- items one after another

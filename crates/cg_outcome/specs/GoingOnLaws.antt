@@ -23,9 +23,6 @@ Appends-twice (Some xs) None h2 s t p q = absurd p
 Appends-twice (Some xs) (Some ys) None s t p q = absurd q
 Appends-twice (Some xs) (Some ys) (Some zs) s t p q = q ∙ ap (λ w. w ++ t) p ∙ append_assoc xs s t
 
-pub Puts-none : (v : SinkView) → Puts v v []
-Puts-none v = record { all = Appends-none v.held; no_fault = refl }
-
 pub Puts-twice : (v v1 v2 : SinkView) (s t : List ℕ) → Puts v v1 s → Puts v1 v2 t → Puts v v2 (s ++ t)
 Puts-twice v v1 v2 s t p q = record {
   all = Appends-twice v.held v1.held v2.held s t p.all q.all;

@@ -1,5 +1,5 @@
 -- What a command comes to that puts the image of a replica's disk.
-use Rattle.std.proofs.Common.{◌≡◌, ◌≤◌, ℕ, List, [], ◌∷◌, ◌++◌, length, take, Option, Some, None, refl, sym, ap, subst, ◌∙◌}
+use Rattle.std.proofs.Common.{◌≡◌, ℕ, List, [], ◌∷◌, ◌++◌, take, Option, Some, None, refl, sym, ap, subst, ◌∙◌}
 use Rattle.std.specs.Io.KnownBytes.{Appends}
 use Rattle.cg_io.specs.Outside.{SourceView, SinkView, PutsAll}
 use Rattle.cg_items.specs.declared.companion.Companion.TheVariants.{Imaging}
@@ -18,7 +18,7 @@ use Rattle.cg_outcome.specs.SparedLaws.{read-cause}
 use Rattle.cg_outcome.specs.Stopping.{EndsShort}
 use Rattle.cg_outcome.specs.StreamLaws.{grown}
 use Rattle.cg_outcome.specs.Streaming.{Replays, first_stage, from_stage}
-use Rattle.cg_outcome.specs.Taking.{IsImage, IsImageAt, InTime, ReadCause, Runs, most_at_once}
+use Rattle.cg_outcome.specs.Taking.{IsImageAt, InTime, ReadCause, Runs}
 
 -- items put nothing
 silent : (items : List Item) → report_in Imaged items ≡ []

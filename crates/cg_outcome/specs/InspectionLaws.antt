@@ -1,14 +1,11 @@
 -- How an input comes to be looked at, take by take, and what a command comes to that does so.
-use Rattle.std.proofs.Common.{◌≡◌, ◌≤◌, ◌<◌, ℕ, ◌+◌, ◌-◌, nat_lt, List, [], ◌++◌, length, take, Option, Some, None, Bool, true, false, cond, refl, sym, ap, subst, ◌∙◌, arith, length-append}
+use Rattle.std.proofs.Common.{◌≡◌, ◌≤◌, ◌<◌, ℕ, ◌+◌, ◌-◌, nat_lt, List, [], ◌++◌, length, take, Some, None, Bool, true, false, cond, refl, sym, ap, subst, ◌∙◌, arith, length-append}
 use Rattle.std.proofs.lemmas.Bool.{lt-ltb, le-ltb}
 use Rattle.std.proofs.lemmas.List.{append-nil, length-take}
-use Rattle.std.specs.Io.KnownBytes.{Consumes, Keeps, IsAtEnd, Appends}
+use Rattle.std.specs.Io.KnownBytes.{Consumes, Keeps, IsAtEnd}
 use Rattle.cg_io.specs.Outside.{SourceView, SinkView, PutsAll}
-use Rattle.cg_client.specs.Replica.{Replica}
 use Rattle.cg_items.specs.declared.companion.Companion.TheVariants.{Alone}
-use Rattle.cg_items.specs.declared.report.Report.TheVariants.{Inspected as InspectedReport}
-use Rattle.cg_report.specs.declared.entry.Entry.{Entry}
-use Rattle.cg_image.specs.Inspecting.{Inspected, NotAnImage, NotAStore, Holds, inspected, entry_of_recovered}
+use Rattle.cg_image.specs.Inspecting.{Inspected, NotAnImage, NotAStore, Holds, inspected}
 use Rattle.cg_image.specs.Told.{told_of}
 use Rattle.cg_image.specs.declared.inspecting.Inspected.TheVariants as told
 use Rattle.cg_outcome.specs.declared.command.Command.TheVariants.{Inspect}
@@ -19,15 +16,14 @@ use Rattle.cg_outcome.specs.declared.status.Status.TheVariants as status
 use Rattle.cg_outcome.specs.Inspection.{Gathers, Inspects}
 use Rattle.cg_outcome.specs.GoingOnLaws.{Appends-none}
 use Rattle.cg_outcome.specs.NearLaws.{Runs-near}
-use Rattle.cg_outcome.specs.Outcome.{Ending, Ended, Failed, Open, seen_in, looked_at, inspection, outcome_of, text_put}
-use Rattle.cg_outcome.specs.Produced.{Produced, before_all, ended_with, text_of, status_of}
-use Rattle.cg_outcome.specs.Putting.{StopsWith}
+use Rattle.cg_outcome.specs.Outcome.{Ending, Ended, Failed, Open, seen_in, looked_at, inspection, text_put}
+use Rattle.cg_outcome.specs.Produced.{Produced, before_all, ended_with, status_of}
 use Rattle.cg_outcome.specs.SparedLaws.{read-cause}
 use Rattle.cg_outcome.specs.Streaming.{Ends, FailedIsLast}
 use Rattle.cg_outcome.specs.Stopping.{AllShort}
 use Rattle.cg_outcome.specs.StreamLaws.{Keeps-consumes, grown}
 use Rattle.cg_outcome.specs.TakeLaws.{Consumes-none, Consumes-twice}
-use Rattle.cg_outcome.specs.Taking.{HasCause, InTime, ReadCause, Runs, most_at_once, most_taken}
+use Rattle.cg_outcome.specs.Taking.{HasCause, InTime, ReadCause, Runs, most_taken}
 
 pub Gathers-begin : (old : SourceView) → Gathers old old []
 Gathers-begin old = record { consumed = Consumes-none old.left; no_fault = refl; most = omega arith }
@@ -129,12 +125,6 @@ pub told-no_store : (x : Inspected) → told_of x ≡ told.NotAStore → x ≡ N
 told-no_store NotAnImage e = cc
 told-no_store NotAStore e = refl
 told-no_store (Holds r) e = cc
-
-pub told-replica : (x : Inspected) (e : Entry) → told_of x ≡ told.Holds e →
-    (r : Replica) × (x ≡ Holds r) × (entry_of_recovered r ≡ e)
-told-replica NotAnImage e is = cc
-told-replica NotAStore e is = cc
-told-replica (Holds r) e is = (r, refl, cc)
 
 -- ---- the command
 

@@ -26,3 +26,4 @@ pub mod Taking
 pub mod Totals
 pub mod TrialLaws
 pub mod UnderWay
+pub mod LimitLaws

@@ -1,12 +1,12 @@
 -- The names of the reds ascend.
-use Rattle.std.proofs.Common.{◌≡◌, ℕ, zero, suc, ◌+◌, ◌<◌, ◌≤◌, List, [], ◌∷◌, ◌++◌, refl, sym, ap, subst, ◌∙◌, arith}
+use Rattle.std.proofs.Common.{◌≡◌, ℕ, zero, suc, ◌+◌, ◌<◌, ◌≤◌, List, [], ◌∷◌, ◌++◌, sym, subst, ◌∙◌, arith}
 use Rattle.cg_base.specs.declared.action_id.ActionId.{ActionId}
-use Rattle.cg_action.specs.declared.action.Action.{Action}
 use Rattle.cg_queue.specs.declared.red.Red.{Red}
 use Rattle.cg_queue.specs.Queue.{names_of}
 use Rattle.cg_queue.specs.Body.{Stretch, actions_in, reds_from}
 use Rattle.cg_queue.specs.Shown.{IsAhead, NamesAscend}
 use Rattle.cg_base.specs.IdLaws.{before-index, before-creator}
+use Rattle.cg_queue.specs.NameLaws.{names-append}
 
 -- the first of the names is of a later creator
 abbrev BeginsAbove : ℕ → List ActionId → Type 0
@@ -16,10 +16,6 @@ BeginsAbove c (id ∷ ids) = c < id.creator
 BeginsAbove-less : (c d : ℕ) (ids : List ActionId) → c ≤ d → BeginsAbove d ids → BeginsAbove c ids
 BeginsAbove-less c d [] le above = tt
 BeginsAbove-less c d (id ∷ ids) le above = omega (arith, le, above)
-
-names-append : (xs ys : List Action) → names_of (xs ++ ys) ≡ names_of xs ++ names_of ys
-names-append [] ys = refl
-names-append (x ∷ xs) ys = ap (λ ids. x.id ∷ ids) (names-append xs ys)
 
 -- what stands behind a creator's action: its next one, or one of a later creator
 ahead : (c from : ℕ) (id : ActionId) (reds : List Red) (rest : List ActionId) → id.creator ≡ c → id.index < from → Stretch c from reds → BeginsAbove c rest

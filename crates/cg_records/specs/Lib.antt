@@ -4,3 +4,4 @@ pub mod Reading
 pub mod RecordLaws
 pub mod ItemLoopLaws
 pub mod PassedLaws
+pub mod CutLaws

@@ -1,5 +1,5 @@
 -- No sum is far from 0.
-use Rattle.std.proofs.Common.{◌≡◌, ℕ, suc, ◌+◌, ◌*◌, ◌^◌, ◌<◌, ◌≤◌, Bool, true, false, cond, List, [], ◌∷◌, length, ap, ◌∙◌, arith, to_z, of_z}
+use Rattle.std.proofs.Common.{◌≡◌, ℕ, suc, ◌+◌, ◌*◌, ◌^◌, ◌≤◌, Bool, true, false, cond, List, [], ◌∷◌, length, ap, ◌∙◌, arith, to_z, of_z}
 use Rattle.std.specs.Prelude.{All, ℤ, pos, ◌+ℤ◌, FitsSigned}
 use Rattle.std.specs.Int.{w64, w128}
 use Rattle.std.specs.List.{list_all}
@@ -28,12 +28,6 @@ added-within m n x y one other =
     let higher = other.above in
     let lower = other.below in
     record { above = omega (arith, ints); below = omega (arith, ints) }
-
-pub within-fits : (m : ℕ) (x : ℤ) → m < 2 ^ 127 → IsWithin m x → FitsSigned w128 x
-within-fits m x small is =
-    let above = is.above in
-    let below = is.below in
-    omega (arith, ints)
 
 pub nothing-within : (m : ℕ) → IsWithin m (pos 0)
 nothing-within m = record { above = omega (arith, ints); below = omega (arith, ints) }

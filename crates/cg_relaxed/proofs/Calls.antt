@@ -4,7 +4,6 @@ use Rattle.std.specs.Prelude.{All, Option, Some, None, ℤ, pos, ◌+ℤ◌}
 use Rattle.std.specs.Option.{unwrap_or, option_or}
 use Rattle.std.specs.Map.{lookup}
 use Rattle.std.proofs.lemmas.Bool.{cases_eq, eq-eqb, ne_eqb}
-use Rattle.cg_base.specs.declared.action_id.ActionId.{ActionId}
 use Rattle.cg_base.specs.Calls.{greatest_cut}
 use Rattle.cg_base.specs.Cuts.{index_in, raise}
 use Rattle.cg_base.specs.CutLimits.{IsCut}
@@ -67,11 +66,6 @@ small-added old new a cmds short each known sums is_cut next small before = reco
     ]
 
 -- no creator's sums are far from 0
-pub small-sum : (known : List ActionId) (kept : List (SumKey × ℤ)) (key : List ℕ) (p : ℕ) → AreSmall known kept → IsWithin (2 ^ 107) (sum_at kept key p)
-small-sum known kept key p small =
-    let few : index_in known p < 2 ^ 40 = small.few p in
-    wider (index_in known p * 2 ^ 67) (2 ^ 107) (sum_at kept key p) (omega arith) (small.sums key p)
-
 -- ---- a join
 
 joined-sum : (less : Bool) (mine other first all : Option ℤ) → first ≡ cond (not less) (option_or mine None) None →

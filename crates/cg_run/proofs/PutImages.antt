@@ -1,13 +1,12 @@
 -- The image that is put is one of the disk that the world holds.
-use Rattle.std.proofs.Common.{◌≡◌, ℕ, ◌+◌, List, [], Option, Some, None, refl, sym, ap, subst, ◌∙◌, arith}
-use Rattle.std.specs.Option.{option_map}
+use Rattle.std.proofs.Common.{◌≡◌, ℕ, ◌+◌, List, [], Option, Some, refl, sym, subst, ◌∙◌, arith}
 use Rattle.cg_disk.specs.View.{DiskView}
 use Rattle.cg_disk_records.specs.Crash.{Disk}
 use Rattle.cg_image.specs.Images.{image_text}
 use Rattle.cg_io.specs.Outside.{SourceView, SinkView}
 use Rattle.cg_items.specs.declared.companion.Companion.TheVariants.{Imaging}
 use Rattle.cg_items.specs.declared.report.Report.TheVariants.{Imaged}
-use Rattle.cg_model.specs.World.{World, Node, node_disk, node_of}
+use Rattle.cg_model.specs.World.{World}
 use Rattle.cg_outcome.specs.declared.status.Status.{Status}
 use Rattle.cg_outcome.specs.declared.status.Status.TheVariants as status
 use Rattle.cg_outcome.specs.declared.command.Command.TheVariants.{Image}
@@ -31,20 +30,6 @@ image-at view status.Done p w d given = λ disk is.
 image-at view other p w d given = tt
 
 -- a replica that hasn't begun has no disk
-pub no-image : (p : ℕ) (w : World) (v : SinkView) → node_of w p ≡ None → PutsImage p w v v status.Done
-no-image p w v none = record {
-  image = [];
-  is = λ disk is. absurd (let clash : None ≡ Some disk = sym (ap (option_map (λ (s : Node). node_disk s.life)) none) ∙ is in cc);
-  ends = (refl, record { all = Appends-none v.held; no_fault = refl });
-}
-
-pub nothing-put : (p : ℕ) (w : World) (v : SinkView) → PutsImage p w v v status.NoMemory
-nothing-put p w v = record {
-  image = [];
-  is = tt;
-  ends = record { front = record { front = []; rest = []; whole = refl; grown = Appends-none v.held }; counted = omega arith };
-}
-
 -- the image of the world that is left is put
 pub put-world : (p : ℕ) (here : World) (v v1 : SinkView) (st : Status) → PutsImage p here v v1 st → (w : World) → Some here ≡ Some w → PutsImage p w v v1 st
 put-world p here v v1 st put w is = subst (λ (w : World). PutsImage p w v v1 st) (let one : Some here ≡ Some w = is in cc) put

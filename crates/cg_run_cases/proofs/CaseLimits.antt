@@ -5,7 +5,7 @@ use Rattle.std.specs.Prelude.{◌≡◌, ℕ, zero, suc, ◌+◌, ◌-◌, ◌*�
 use Rattle.std.specs.List.{ends_with}
 use Prim.Native.String.{String}
 use Rattle.std.proofs.Common.{refl, ap, ap₂, ◌∙◌, arith, suc-mul, zero-mul}
-use Rattle.std.proofs.lemmas.Bool.{le-ltb, lt-ltb}
+use Rattle.std.proofs.lemmas.Bool.{lt-ltb}
 use Rattle.std.proofs.lemmas.List.Elements.{All-from_recursion, All-nil, All-cons, All-replicate}
 use Rattle.std.proofs.lemmas.List.Splits.{slice_split_none, slice_split_at, length-slice_split}
 use Rattle.cg_base.specs.Text.{pieces_of}
@@ -21,6 +21,7 @@ use Rattle.cg_outcome.specs.declared.status.Status.TheVariants as status
 use Rattle.cg_outcome.specs.Streaming.{IsUnended}
 use Rattle.cg_run_cases.specs.Replaying.{utf8, written, put_of}
 use Rattle.cg_run_cases.specs.Computing.{cases_compute}
+use Rattle.cg_outcome.specs.LimitLaws.{limit_of-none}
 
 all_at_their_last : limit_of 200000 32768 8388608 ≡ None
 all_at_their_last = refl
@@ -96,9 +97,6 @@ rest_passes_limit n at b bs how s what is passed =
 limit-line : (n len end : ℕ) → 32768 < len → limit_of n len end ≡ Some limit.Line
 limit-line n len end long = rw (lt-ltb 32768 len long) refl
 
-limit-none : (n len end : ℕ) → len ≤ 32768 → end ≤ 8388608 → n ≤ 200000 → limit_of n len end ≡ None
-limit-none n len end short within few = rw (le-ltb 32768 len short, le-ltb 8388608 end within, le-ltb 200000 n few) refl
-
 -- ---- lines that are passed over
 
 -- a comment, which may end in a carriage return
@@ -139,7 +137,7 @@ behind_many line is short over zero n at rest how few within =
 behind_many line is short over (suc m) n at rest how few within =
     let more : Progress → Produced = lines_from (n + 1) (at + length line + 1) (many m line rest) how in
     let times : suc m * suc (length line) ≡ suc (length line) + m * suc (length line) = omega (arith, suc-mul m (suc (length line))) in
-    let none : limit_of n (length line) (at + length line + 1) ≡ None = limit-none n (length line) (at + length line + 1) short (omega (arith, times)) (omega arith) in
+    let none : limit_of n (length line) (at + length line + 1) ≡ None = limit_of-none n (length line) (at + length line + 1) short (omega (arith, times)) (omega arith) in
     let count : n + 1 + m ≡ n + suc m = omega arith in
     let place : at + length line + 1 + m * suc (length line) ≡ at + suc m * suc (length line) = omega (arith, times) in
     line_and_more n at line (many m line rest) how (before_all Alone) is
@@ -177,7 +175,7 @@ longest_line_put : (bytes : List ℕ) → IsUnended bytes → length bytes ≡ 3
 unfolding cases_compute
 longest_line_put bytes is long =
     let line : List ℕ = 35 ∷ bytes in
-    let none : limit_of 1 (length line) (0 + length line + 1) ≡ None = limit-none 1 (length line) (0 + length line + 1) (omega (arith, long)) (omega (arith, long)) (omega arith) in
+    let none : limit_of 1 (length line) (0 + length line + 1) ≡ None = limit_of-none 1 (length line) (0 + length line + 1) (omega (arith, long)) (omega (arith, long)) (omega arith) in
     let at_end : Progress → Produced = lines_from 2 (0 + length line + 1) [] Ended in
     put_is (line ++ 10 ∷ []) Ended
     ∙ ap (text_of Whole) (

@@ -16,8 +16,9 @@ use Rattle.cg_schedule.specs.Reading.{Reading, ◌>>=◌, done, token_part}
 use Rattle.cg_schedule.specs.Part.{text, integer, amount, value, want, text_part, integer_part, amount_part, value_part, want_part}
 use Rattle.cg_schedule.specs.Command.{key_part, prefix_part, put_reading, del_reading, inc_reading, cas_reading, move_reading, need_reading, command_of, query_of, query_reading}
 use Rattle.cg_schedule.specs.Limits.{IsPrintable, IsQuery}
-use Rattle.cg_schedule.proofs.PartLaws.{Anything, Found, Makes, IsPart, given, part-token, made, bound}
-use Rattle.cg_schedule.proofs.TokenParts.{TextFacts, IsAmount, IsValue, IsWant, same_text-true, text_token, integer_token, amount_token, value_token, want_token}
+use Rattle.cg_schedule.specs.PartLaws.{Anything, Found, Makes, IsPart, given, part-token, made, bound}
+use Rattle.cg_schedule.proofs.TokenParts.{TextFacts, IsAmount, IsValue, IsWant, text_token, integer_token, amount_token, value_token, want_token}
+use Rattle.cg_text.specs.OrderLaws.{same_text-is}
 
 -- ---- parts of one token
 
@@ -117,7 +118,7 @@ command_reading = token_part >>= command_of
 -- the reading of one word, or that of the others
 worded : {Y : Type 0} (word w : List ℕ) (here others : Reading Y) (left : List (List ℕ)) (y : Y) (new : List (List ℕ)) (P : Type 0) → (word ≡ w → here left ≡ Ok (y, new) → P) → (others left ≡ Ok (y, new) → P)
     → (b : Bool) → same_text word w ≡ b → (cond b here others) left ≡ Ok (y, new) → P
-worded word w here others left y new P first rest true same e = first (same_text-true word w same) e
+worded word w here others left y new P first rest true same e = first (same_text-is word w same) e
 worded word w here others left y new P first rest false same e = rest e
 
 abbrev pub IsCommand : Cmd → Type 0

@@ -17,13 +17,14 @@ use Rattle.cg_schedule.specs.Command.{Update, query_reading, update_reading}
 use Rattle.cg_schedule.specs.Line.{event_word, ids, weights, start_reading, split_reading, merge_reading, request_reading, weak_reading, dirty_reading, order_reading, recover_stopped_reading, recovery_of, recover_reading, downgrade_reading, shown, show_reading, receive_reading, deliver_reading, rounds_reading, stop_reading, fail_reading, join_reading, leave_reading, transfer_reading, event_reading}
 use Rattle.cg_schedule.specs.Print.{fill_text}
 use Rattle.cg_schedule.specs.Limits.{IsWithin, IsCount, IsMember, IsFill, IsQuery, IsUpdate, IsEvent}
-use Rattle.cg_schedule.proofs.PartLaws.{Anything, Nothing, IsPart, Makes, given, go_on-ok, lifted-ok, ended-ok, part-token, made, bound, whole-again, whole-found}
-use Rattle.cg_schedule.proofs.TokenParts.{TextFacts, same_text-true, number_token}
+use Rattle.cg_schedule.specs.PartLaws.{Anything, Nothing, IsPart, Makes, given, go_on-ok, lifted-ok, ended-ok, part-token, made, bound, whole-again, whole-found}
+use Rattle.cg_schedule.proofs.TokenParts.{TextFacts, number_token}
 use Rattle.cg_schedule.proofs.MemberParts.{weighted_token}
 use Rattle.cg_schedule.proofs.FillParts.{fill_token}
 use Rattle.cg_schedule.proofs.CommandParts.{query_tokens, query_is}
 use Rattle.cg_schedule.proofs.UpdateParts.{update_tokens, update_is}
 use Rattle.cg_schedule.proofs.SetParts.{member_text, ids_is, weights_is}
+use Rattle.cg_text.specs.OrderLaws.{same_text-is}
 
 -- ---- parts of one token
 
@@ -161,7 +162,7 @@ transfer_makes facts = behind_id_two facts (IsWithin 1 32) (λ n. decimal n ∷ 
 no_order : (token : List ℕ) (p : ℕ) → number 1 32 token ≡ Ok p → (b : Bool) → same_text token (codes "order") ≡ b → b ≡ false
 unfolding number
 no_order token p e false same = refl
-no_order token p e true same = absurd (refused (rw (same_text-true token (codes "order") same) at e)) where
+no_order token p e true same = absurd (refused (rw (same_text-is token (codes "order") same) at e)) where
   refused : number 1 32 (codes "order") ≡ Ok p → ⊥
   refused f = cc
 
@@ -205,7 +206,7 @@ unfolding show_reading
 show_found facts [] e f = absurd cc
 show_found facts (token ∷ left) e f = by_word (same_text token (codes "order")) refl f where
   by_word : (b : Bool) → same_text token (codes "order") ≡ b → ended ((cond b (done event.ShowOrder) (lifted (shown (number 1 32 token)))) left) ≡ Ok e → EventFound Show (token ∷ left) e
-  by_word true same g = order_found token left e (same_text-true token (codes "order") same) g
+  by_word true same g = order_found token left e (same_text-is token (codes "order") same) g
   by_word false same g = replica_found facts token left e g
 
 -- ---- recover

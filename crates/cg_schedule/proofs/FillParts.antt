@@ -11,9 +11,9 @@ use Rattle.cg_schedule.specs.Fault.{bad_text}
 use Rattle.cg_schedule.specs.Part.{hex_digit, hex_byte, if_byte, hex_bytes, fill}
 use Rattle.cg_schedule.specs.Print.{hex_glyph, hex_text, fill_text}
 use Rattle.cg_schedule.specs.Limits.{AreBytes, IsFill}
-use Rattle.cg_schedule.proofs.PartLaws.{IsToken}
-use Rattle.cg_schedule.proofs.TokenParts.{same_text-true}
+use Rattle.cg_schedule.specs.PartLaws.{IsToken}
 use Rattle.std.proofs.lemmas.Option.{same_Some}
+use Rattle.cg_text.specs.OrderLaws.{same_text-is}
 
 -- ---- digits
 
@@ -141,7 +141,7 @@ fill_token = record { again = again; found = λ bytes token e. found bytes token
   found : (bytes token : List ℕ) (b : Bool) → same_text token (codes "-") ≡ b → cond b (Ok []) (cond (eqb (length token) 0 || ltb 8192 (length token)) (Err bad_text) (hex_bytes [] token)) ≡ Ok bytes → IsFill bytes × (token ≡ fill_text bytes)
   found bytes token true same e =
       let none : [] ≡ bytes = same_Ok [] bytes e in
-      rw (← none) ((tt, omega arith), same_text-true token (codes "-") same)
+      rw (← none) ((tt, omega arith), same_text-is token (codes "-") same)
   found bytes token false same e =
       let g = both_cond (eqb (length token) 0 || ltb 8192 (length token)) bad_text (hex_bytes [] token) bytes e in
       let tests = or_parts (eqb (length token) 0) (ltb 8192 (length token)) g.0 in

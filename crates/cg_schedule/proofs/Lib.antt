@@ -6,7 +6,6 @@ mod HexSteps
 mod LineLaws
 mod LineTokens
 mod MemberParts
-mod PartLaws
 mod QuotedUtf8
 mod SetParts
 mod TokenParts

@@ -19,12 +19,13 @@ use Rattle.cg_schedule.specs.Line.{word_text, every_word, word_of, event_word, f
 use Rattle.cg_schedule.specs.Print.{line_of, fill_text}
 use Rattle.cg_schedule.specs.Limits.{IsEvent}
 use Rattle.cg_schedule.specs.Laws.{MayStand, ReadsAs, Reads}
-use Rattle.cg_schedule.proofs.TokenParts.{TextFacts, same_text-true}
+use Rattle.cg_schedule.proofs.TokenParts.{TextFacts}
 use Rattle.cg_schedule.proofs.SetParts.{member_text}
 use Rattle.cg_schedule.proofs.EventParts.{event_parts, EventFound, event_found, event_again}
 use Rattle.cg_schedule.proofs.LineTokens.{TokenFacts, IsLine, line_word, line_gap, line_number, line_member, line_fill, line_query, line_update, line_parts, ids_each, members_each}
 use Rattle.cg_base.specs.ListLaws.{same_cons, same_rest}
 use Rattle.cg_base.specs.FindLaws.{found_passes}
+use Rattle.cg_text.specs.OrderLaws.{same_text-is}
 
 -- ---- printed lines
 
@@ -113,7 +114,7 @@ printed_tokens facts texts e has =
 
 word_of-text : (text : List ℕ) (word : Word) → word_of text ≡ Some word → text ≡ word_text word
 unfolding word_of
-word_of-text text word e = sym (same_text-true (word_text word) text (found_passes (λ w. same_text (word_text w) text) every_word word e))
+word_of-text text word e = sym (same_text-is (word_text word) text (found_passes (λ w. same_text (word_text w) text) every_word word e))
 
 word_of-again : (word : Word) → word_of (word_text word) ≡ Some word
 unfolding word_of

@@ -14,7 +14,7 @@ use Rattle.cg_schedule.specs.declared.fault.LineFault.{LineFault}
 use Rattle.cg_schedule.specs.Fault.{bad_number}
 use Rattle.cg_schedule.specs.Part.{number, with_weight, weighted_of, weighted}
 use Rattle.cg_schedule.specs.Limits.{IsWithin, IsMember}
-use Rattle.cg_schedule.proofs.PartLaws.{IsToken}
+use Rattle.cg_schedule.specs.PartLaws.{IsToken}
 use Rattle.cg_schedule.proofs.TokenParts.{TextFacts, number_token}
 use Rattle.cg_base.specs.EachLaws.{list_all_kept_by}
 

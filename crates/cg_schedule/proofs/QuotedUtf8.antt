@@ -1,15 +1,16 @@
 -- What is printed is UTF-8.
-use Rattle.std.proofs.Common.{◌≡◌, ℕ, suc, ◌<◌, ◌≤◌, Bool, true, false, cond, List, [], ◌∷◌, ◌++◌, length, get_or, refl, sym, ap₂, subst, arith, inl, inr}
+use Rattle.std.proofs.Common.{◌≡◌, ℕ, ◌<◌, ◌≤◌, Bool, true, false, cond, List, [], ◌∷◌, length, get_or, refl, sym, subst, arith, inl, inr}
 use Rattle.std.specs.Prelude.{nat_lt}
 use Rattle.std.specs.List.{flat_map, list_all}
 use Rattle.std.specs.Str.{IsUtf8}
-use Rattle.std.proofs.lemmas.Bool.{and_parts, cases_lt, ne_eqb, ltb-true}
+use Rattle.std.proofs.lemmas.Bool.{and_parts, cases_lt, ltb-true}
 use Rattle.std.proofs.lemmas.List.{append-nil}
 use Rattle.std.proofs.lemmas.List.Concat.{flat_map-append}
 use Rattle.std.proofs.lemmas.Str.{IsUtf8-append, IsUtf8-nil, IsUtf8-encode, encode_ascii, inside_one}
 use lib.Utf8.{scalar, scalars, encode, encodes}
 use Rattle.cg_text.specs.Quoted.{is_special, escaped, quoted}
 use Rattle.cg_base.specs.TextLaws.{ascii_then}
+use Rattle.cg_text.specs.QuotedLaws.{escaped-high}
 
 -- a byte that is a character by itself
 abbrev pub is_ascii : ℕ → Bool
@@ -28,13 +29,6 @@ escaped_ascii byte small = by_special (is_special byte) where
   by_special false = ascii_then byte [] small IsUtf8-nil
 
 -- a byte that is no character by itself stands as it is
-escaped_high : (byte : ℕ) → 128 ≤ byte → escaped byte ≡ byte ∷ []
-escaped_high byte high = rw (ne_eqb byte 34 (λ e. absurd (omega arith)), ne_eqb byte 92 (λ e. absurd (omega arith))) refl
-
-all_high : (bytes : List ℕ) → ((k : ℕ) → k < length bytes → 128 ≤ get_or bytes k 0) → flat_map escaped bytes ≡ bytes
-all_high [] high = refl
-all_high (byte ∷ bytes) high = ap₂ (λ (a b : List ℕ). a ++ b) (escaped_high byte (high 0 (omega arith))) (all_high bytes (λ k below. high (suc k) (omega arith)))
-
 one_char : (c : ℕ) → scalar c ≡ true → IsUtf8 (flat_map escaped (encode c))
 one_char c ok = elim (cases_lt c 128) [
   | inl small ↦ rw (encode_ascii c small, append-nil (escaped c)) (escaped_ascii c small)
@@ -43,7 +37,7 @@ one_char c ok = elim (cases_lt c 128) [
         | inl low ↦ absurd (omega (arith, inside_one c [] (encode c) k (sym (append-nil (encode c))) below low))
         | inr h ↦ h
       ] in
-      subst IsUtf8 (sym (all_high (encode c) high)) (IsUtf8-encode c ok)
+      subst IsUtf8 (sym (escaped-high (encode c) high)) (IsUtf8-encode c ok)
 ]
 
 all_chars : (cs : List ℕ) → scalars cs ≡ true → IsUtf8 (flat_map escaped (encodes cs))

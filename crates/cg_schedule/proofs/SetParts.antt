@@ -13,7 +13,7 @@ use Rattle.cg_schedule.specs.Fault.{bad_list}
 use Rattle.cg_schedule.specs.Part.{number, weighted}
 use Rattle.cg_schedule.specs.Line.{ids_behind, ids, weights_behind, weights}
 use Rattle.cg_schedule.specs.Limits.{IsWithin}
-use Rattle.cg_schedule.proofs.PartLaws.{Nothing, Given, IsToken, IsPart, given}
+use Rattle.cg_schedule.specs.PartLaws.{Nothing, Given, IsToken, IsPart, given}
 use Rattle.cg_schedule.proofs.TokenParts.{TextFacts, number_token}
 use Rattle.cg_schedule.proofs.MemberParts.{weighted_token}
 use Rattle.cg_base.specs.ListLaws.{same_cons}

@@ -1,12 +1,11 @@
 -- Each part that is one token is read as it is spelled.
 use Rattle.std.proofs.Common.{◌≡◌, ℕ, ◌^◌, ◌<◌, ◌≤◌, Bool, true, false, cond, List, [], ◌∷◌, length, Option, Some, None, Result, Ok, Err, refl, ap, arith, codes}
-use Rattle.std.specs.Prelude.{ℤ, pos, negsuc, ◌≤ℤ◌, nat_le, decimal, FitsSigned, ◌&&◌}
+use Rattle.std.specs.Prelude.{ℤ, pos, negsuc, ◌≤ℤ◌, nat_le, decimal, FitsSigned}
 use Rattle.std.specs.Fmt.{signed_decimal}
 use Rattle.std.specs.Int.{w64}
 use Rattle.std.specs.Str.{IsUtf8}
-use Rattle.std.proofs.lemmas.Bool.{ne_eqb, leb-true, le-leb, and_parts}
+use Rattle.std.proofs.lemmas.Bool.{ne_eqb, leb-true, le-leb}
 use Rattle.std.proofs.lemmas.Int.{ints}
-use Rattle.std.proofs.lemmas.Slice.Eq.{bytes_eq-Decides}
 use Rattle.cg_text.specs.declared.fault.TextFault.{TextFault}
 use Rattle.cg_text.specs.Fault.{IsSpelling}
 use Rattle.cg_text.specs.Order.{same_text}
@@ -18,11 +17,13 @@ use Rattle.cg_action.specs.declared.value.Value.TheVariants.{Text, Int}
 use Rattle.cg_action.specs.Limits.{IsValueOf, IsWantOf}
 use Rattle.cg_action.specs.Print.{value_text, want_text}
 use Rattle.cg_schedule.specs.declared.fault.LineFault.{LineFault}
-use Rattle.cg_schedule.specs.Fault.{bad_number, bad_text}
-use Rattle.cg_schedule.specs.Part.{in_range, number, signed, integer, not_negative, amount, long_enough, text, is_quoted, text_value, number_value, value, some_value, want}
+use Rattle.cg_schedule.specs.Fault.{bad_text}
+use Rattle.cg_schedule.specs.Part.{number, signed, integer, not_negative, amount, long_enough, text, is_quoted, text_value, number_value, value, some_value, want}
 use Rattle.cg_schedule.specs.Limits.{IsWithin, IsPrintable}
-use Rattle.cg_schedule.proofs.PartLaws.{IsToken}
+use Rattle.cg_schedule.specs.PartLaws.{IsToken}
 use Rattle.cg_base.specs.ResultLaws.{cond_ok}
+use Rattle.cg_text.specs.OrderLaws.{same_text-is}
+use Rattle.cg_schedule.specs.NumberLaws.{in_range-ok}
 
 -- what is known of the spelling of numbers and texts
 pub record TextFacts : Type 0 where
@@ -32,17 +33,7 @@ pub record TextFacts : Type 0 where
 
 -- ---- tests
 
-pub same_text-true : (xs ys : List ℕ) → same_text xs ys ≡ true → xs ≡ ys
-same_text-true xs ys e = (bytes_eq-Decides xs ys).0 e
-
 -- ---- numbers
-
-in_range-ok : (low high : ℕ) (r : Result ℕ TextFault) (n : ℕ) → in_range low high r ≡ Ok n → (r ≡ Ok n) × IsWithin low high n
-in_range-ok low high (Ok m) n e =
-    let g = cond_ok (nat_le low m && nat_le m high) m n bad_number e in
-    let tests = and_parts (nat_le low m) (nat_le m high) g.0 in
-    (ap (λ (k : ℕ). Ok k) g.1, rw (← g.1) (leb-true low m tests.0, leb-true m high tests.1))
-in_range-ok low high (Err fault) n e = absurd cc
 
 pub number_token : TextFacts → (low high : ℕ) → high < 2 ^ 64 → IsToken (IsWithin low high) decimal (number low high)
 unfolding number
@@ -149,7 +140,7 @@ value_token facts = record { again = again; found = λ v token e. found v token 
 no_absent : (token : List ℕ) (v : Value) → value token ≡ Ok v → (b : Bool) → same_text token (codes "absent") ≡ b → b ≡ false
 unfolding value integer
 no_absent token v e false same = refl
-no_absent token v e true same = absurd (refused (rw (same_text-true token (codes "absent") same) at e)) where
+no_absent token v e true same = absurd (refused (rw (same_text-is token (codes "absent") same) at e)) where
   refused : value (codes "absent") ≡ Ok v → ⊥
   refused f = cc
 
@@ -172,7 +163,7 @@ want_token facts = record { again = again; found = λ o token e. found o token (
   found : (o : Option Value) (token : List ℕ) (b : Bool) → same_text token (codes "absent") ≡ b → cond b (Ok None) (some_value (value token)) ≡ Ok o → IsWant o × (token ≡ want_text o)
   found o token true same e =
       let none : None ≡ o = cc in
-      rw (← none) (tt, same_text-true token (codes "absent") same)
+      rw (← none) (tt, same_text-is token (codes "absent") same)
   found o token false same e =
       let g = some_value-ok (value token) o e in
       rw (← g.2) ((value_token facts).found g.0 token g.1)

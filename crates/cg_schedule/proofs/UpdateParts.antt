@@ -12,10 +12,11 @@ use Rattle.cg_schedule.specs.Fault.{extra_part}
 use Rattle.cg_schedule.specs.Reading.{Reading, go_on, ◌>>=◌, token_part}
 use Rattle.cg_schedule.specs.Command.{Update, query_reading, with_query, is_semicolon, is_question_mark, behind_commands, commands, update_of, update_reading}
 use Rattle.cg_schedule.specs.Limits.{IsPrintable, IsQuery, IsUpdate}
-use Rattle.cg_schedule.proofs.PartLaws.{Anything, Nothing, IsPart, Makes, gives, given, go_on-ok, made}
-use Rattle.cg_schedule.proofs.TokenParts.{TextFacts, same_text-true}
+use Rattle.cg_schedule.specs.PartLaws.{Anything, Nothing, IsPart, Makes, gives, given, go_on-ok, made}
+use Rattle.cg_schedule.proofs.TokenParts.{TextFacts}
 use Rattle.cg_schedule.proofs.CommandParts.{IsCommand, command_tokens, command_reading, command_is, query_tokens, query_is}
 use Rattle.cg_base.specs.ListLaws.{same_cons}
+use Rattle.cg_text.specs.OrderLaws.{same_text-is}
 
 -- ---- tokens
 
@@ -126,11 +127,11 @@ behind_found : TextFacts → (n : ℕ) (taken : List Cmd) (cmd : Cmd) (left ts :
 behind_found facts n taken cmd [] ts u new more is from e = ends_here n taken cmd ts u new is from e
 behind_found facts n taken cmd (mark ∷ left) ts u new more is from e = by_question (is_question_mark mark) refl e where
   by_semicolon : (b : Bool) → is_semicolon mark ≡ b → cond b (commands_from n (taken ++ cmd ∷ []) left) (Err extra_part) ≡ Ok (u, new) → CommandsFound (suc n) taken ts u new
-  by_semicolon true s f = goes_on n taken cmd mark left ts u new is from (same_text-true mark (codes ";") s) (more (taken ++ cmd ∷ []) left u new f)
+  by_semicolon true s f = goes_on n taken cmd mark left ts u new is from (same_text-is mark (codes ";") s) (more (taken ++ cmd ∷ []) left u new f)
   by_semicolon false s f = absurd cc
 
   by_question : (b : Bool) → is_question_mark mark ≡ b → cond b (with_query (taken ++ cmd ∷ []) left) (cond (is_semicolon mark) (commands_from n (taken ++ cmd ∷ []) left) (Err extra_part)) ≡ Ok (u, new) → CommandsFound (suc n) taken ts u new
-  by_question true q f = asks_here facts n taken cmd mark left ts u new is from (same_text-true mark (codes "?") q) f
+  by_question true q f = asks_here facts n taken cmd mark left ts u new is from (same_text-is mark (codes "?") q) f
   by_question false q f = by_semicolon (is_semicolon mark) refl f
 
 no_further : (taken : List Cmd) (ts : List (List ℕ)) (u : Update) (new : List (List ℕ)) → commands_from 0 taken ts ≡ Ok (u, new) → ⊥
@@ -190,7 +191,7 @@ update_found facts (token ∷ left) u new e = by_question (is_question_mark toke
   by_question : (b : Bool) → is_question_mark token ≡ b → (cond b (with_query []) (commands 16 [] token)) left ≡ Ok (u, new) → UpdateFound (token ∷ left) u new
   by_question true q f =
       let g = (with_query_makes facts []).found u left new f in
-      rw (same_text-true token (codes "?") q, ← g.is) (record { few = omega arith; each = All-nil IsCommand; asks = g.has; does = refl }, ap (λ (t : List (List ℕ)). codes "?" ∷ t) g.tokens)
+      rw (same_text-is token (codes "?") q, ← g.is) (record { few = omega arith; each = All-nil IsCommand; asks = g.has; does = refl }, ap (λ (t : List (List ℕ)). codes "?" ∷ t) g.tokens)
   by_question false q f = from_commands (token ∷ left) u new (commands_found facts 16 [] (token ∷ left) u new f)
 
 pub update_is : TextFacts → IsPart Nothing (λ (u : Update). IsUpdate u.0 u.1) (λ (u : Update). update_tokens u.0 u.1) update_reading

@@ -1,24 +1,24 @@
 -- Numbers of sessions, and the parts behind them, which are those of events of a schedule.
-use Rattle.std.proofs.Common.{◌≡◌, ℕ, ◌^◌, ◌<◌, Bool, true, false, cond, List, [], ◌∷◌, ◌++◌, Result, Ok, Err, refl, sym, ap, ◌∙◌, arith}
-use Rattle.std.specs.Prelude.{◌↔◌, decimal, nat_le, ◌&&◌}
+use Rattle.std.proofs.Common.{◌≡◌, ℕ, ◌^◌, ◌<◌, true, List, [], ◌∷◌, ◌++◌, Result, Ok, Err, refl, sym, ap, ◌∙◌, arith}
+use Rattle.std.specs.Prelude.{◌↔◌, decimal}
 use Rattle.std.specs.Fmt.{digits}
-use Rattle.std.proofs.lemmas.Bool.{leb-true, le-leb, and_parts}
+use Rattle.std.proofs.lemmas.Bool.{le-leb}
 use Rattle.cg_base.specs.Replicas.{every_replica}
 use Rattle.cg_base.specs.Sets.{IsId}
 use Rattle.cg_base.specs.SetLaws.{each-replica}
-use Rattle.cg_text.specs.declared.fault.TextFault.{TextFault}
 use Rattle.cg_text.specs.Fault.{IsSpelling}
 use Rattle.cg_text.specs.Numbers.{read_u64}
 use Rattle.cg_text.specs.Tokens.{is_blank, is_word, ends_word, tokens}
 use Rattle.cg_schedule.specs.declared.event.Event.{Event}
 use Rattle.cg_schedule.specs.declared.fault.LineFault.{LineFault}
-use Rattle.cg_schedule.specs.Fault.{bad_number}
-use Rattle.cg_schedule.specs.Reading.{Reading, go_on, ◌>>=◌, done, lifted, ended, whole}
-use Rattle.cg_schedule.specs.Part.{in_range, number, id_part}
+use Rattle.cg_schedule.specs.Reading.{Reading, go_on, ◌>>=◌, done, ended, whole}
+use Rattle.cg_schedule.specs.Part.{number, id_part}
 use Rattle.cg_schedule.specs.Limits.{IsEvent}
 use Rattle.cg_schedule.specs.Line.{word_text, event_word, event_reading}
 use Rattle.cg_schedule.specs.Print.{line_of}
 use Rattle.cg_session.specs.declared.event.SessionEvent.{SessionEvent}
+use Rattle.cg_schedule.specs.PartLaws.{read_as, same_read, lifted-ok}
+use Rattle.cg_schedule.specs.NumberLaws.{in_range-ok}
 
 -- the laws of numbers, of tokens, and of the parts behind a word of a schedule
 pub record Known : Type 0 where
@@ -32,31 +32,7 @@ pub record Known : Type 0 where
 
 -- ---- numbers
 
-passed : (b : Bool) (n m : ℕ) → cond b (Ok n) (Err bad_number) ≡ Ok m → (b ≡ true) × (n ≡ m)
-passed true n m e = (refl, cc)
-passed false n m e = absurd cc
-
-in_range-ok : (r : Result ℕ TextFault) (n : ℕ) → in_range 1 32 r ≡ Ok n → (r ≡ Ok n) × IsId n
-in_range-ok (Ok m) n e =
-    let g = passed (nat_le 1 m && nat_le m 32) m n e in
-    let tests = and_parts (nat_le 1 m) (nat_le m 32) g.0 in
-    (ap (λ (k : ℕ). Ok k) g.1, rw (← g.1) (leb-true 1 m tests.0, leb-true m 32 tests.1))
-in_range-ok (Err fault) n e = absurd cc
-
--- what was given is told by the answer
-abbrev given : {X : Type 0} → X → Result X LineFault
-given x = Ok x
-
-same_given : {X : Type 0} (x y : X) → given x ≡ given y → x ≡ y
-same_given x y e = cc
-
-lifted-ok : (r : Result ℕ LineFault) (left : List (List ℕ)) (n : ℕ) (new : List (List ℕ)) →
-    lifted r left ≡ Ok (n, new) → (r ≡ Ok n) × (left ≡ new)
-lifted-ok (Ok m) left n new e =
-    let pair : (m, left) ≡ (n, new) = same_given (m, left) (n, new) e in
-    (ap (λ (p : ℕ × List (List ℕ)). Ok p.0) pair, ap (λ (p : ℕ × List (List ℕ)). p.1) pair)
-lifted-ok (Err fault) left n new e = absurd cc
-
+-- what was read_as is told by the answer
 module _ (known : Known) where
   pub id_found : (ts : List (List ℕ)) (n : ℕ) (left : List (List ℕ)) → id_part ts ≡ Ok (n, left) → IsId n ×
       (ts ≡ decimal n ∷ left)
@@ -64,7 +40,7 @@ module _ (known : Known) where
   id_found [] n left e = absurd cc
   id_found (t ∷ ts) n left e =
       let l = lifted-ok (number 1 32 t) ts n left e in
-      let r = in_range-ok (read_u64 t) n l.0 in
+      let r = in_range-ok 1 32 (read_u64 t) n l.0 in
       (r.1, both t (decimal n) ts left (known.numbers.found t n r.0).1 l.1)
     where
       both : (a b : List ℕ) (l m : List (List ℕ)) → a ≡ b → l ≡ m → a ∷ l ≡ b ∷ m
@@ -123,7 +99,7 @@ module _ {X : Type 0} (a : Alike X) (s : ℕ) (ts : List (List ℕ)) where
   into e = by_replica (id_part ts) where
     by_part : (p : ℕ) (r : Result (X × List (List ℕ)) LineFault) → ended (go_on r (λ x. done (a.event p x))) ≡ Ok e →
         ended (go_on r (λ x. done (a.made s p x))) ≡ Ok (a.from s e)
-    by_part p (Ok (x, [])) h = ap given (sym (a.is_from s p x) ∙ ap (a.from s) (same_given (a.event p x) e h))
+    by_part p (Ok (x, [])) h = ap read_as (sym (a.is_from s p x) ∙ ap (a.from s) (same_read (a.event p x) e h))
     by_part p (Ok (x, t ∷ left)) h = absurd cc
     by_part p (Err fault) h = absurd cc
 
@@ -139,7 +115,7 @@ module _ {X : Type 0} (a : Alike X) (s : ℕ) (ts : List (List ℕ)) where
         a.part left ≡ r
         → ended (go_on r (λ x. done (a.made s p x))) ≡ Ok e → Both a s ts e
     by_part p left (Ok (x, [])) one other h =
-        record { p = p; x = x; is_made = same_given (a.made s p x) e h; reads = rw (one, other) refl }
+        record { p = p; x = x; is_made = same_read (a.made s p x) e h; reads = rw (one, other) refl }
     by_part p left (Ok (x, t ∷ more)) one other h = absurd cc
     by_part p left (Err fault) one other h = absurd cc
 

@@ -135,18 +135,6 @@ read-none s sessions answer pos none = rw (find-none s sessions (place-none s se
 pub ids-apart : (a b : List Session) → ids b ≡ ids a → AreApart a → AreApart b
 ids-apart a b same apart = subst AreDistinct (sym same) apart
 
-pub ids-changing : (s : ℕ) (change : Token → Token) (sessions : List Session) → ids (changing s change sessions) ≡ ids sessions
-ids-changing s change [] = refl
-ids-changing s change (o ∷ sessions) = by (o.id == s) (ids-changing s change sessions) where
-  by : (b : Bool) → ids (changing s change sessions) ≡ ids sessions →
-      (if b then changed change o else o).id ∷ ids (changing s change sessions) ≡ o.id ∷ ids sessions
-  by true more = ap (λ (rest : List ℕ). o.id ∷ rest) more
-  by false more = ap (λ (rest : List ℕ). o.id ∷ rest) more
-
-pub ids-changed : (change : Token → Token) (sessions : List Session) → ids (map (changed change) sessions) ≡ ids sessions
-ids-changed change [] = refl
-ids-changed change (o ∷ sessions) = ap (λ (rest : List ℕ). o.id ∷ rest) (ids-changed change sessions)
-
 pub ids-set : (sessions : List Session) (i : ℕ) (d : Session) (t : Token) → ids (set sessions i (record { id = (get_or sessions i d).id; token = t })) ≡ ids sessions
 ids-set [] i d t = refl
 ids-set (o ∷ sessions) zero d t = refl

@@ -27,7 +27,8 @@ use Rattle.cg_store.specs.declared.pending_record.PendingRecord.{PendingRecord}
 use Rattle.cg_store.specs.declared.outputs.Outputs.{Outputs}
 use Rattle.cg_store.specs.declared.errors.CommitErr.{CommitErr}
 use Rattle.cg_store.specs.declared.errors.CommitErr.TheVariants.{Lost, NoMemory}
-use Rattle.cg_store.proofs.Writing.{unmoved, stands_at_rest}
+use Rattle.cg_store.proofs.Writing.{stands_at_rest}
+use Rattle.cg_journal.specs.ViewLaws.{started}
 
 -- ---- what was made ready
 
@@ -103,4 +104,4 @@ module _ {D : Type 0} (view : D → DiskView) (k : StoreState D) (is_view : IsVi
   refused_ends v d false = refl
 
   pub refused_moments : (T : Type 0) (disk_in : T → D) (v : OnDisk) → EachMoment {T = T} view disk_in (IsEither k.id u v) (view k.disk) (Err (NoMemory k.disk))
-  refused_moments T disk_in v = unmoved (view k.disk) (IsEither k.id u v) is_view (λ c left. inl (stands_at_rest k.id (view k.disk) u c rest stands left))
+  refused_moments T disk_in v = started (view k.disk) (IsEither k.id u v) is_view (λ c left. inl (stands_at_rest k.id (view k.disk) u c rest stands left))

@@ -1,5 +1,5 @@
 -- Actions that lead to a cut: the indexes of each creator's count up, from the cut in front of them.
-use Rattle.std.proofs.Common.{◌≡◌, ◌≢◌, ◌⊎◌, ℕ, suc, ◌+◌, ◌-◌, ◌^◌, ◌<◌, ◌≤◌, max, Bool, true, false, cond, eqb, leb, List, [], ◌∷◌, length, map, filter, fold, refl, sym, ap, subst, ◌∙◌, arith, inl, inr, if◌then◌else◌, nat_lt}
+use Rattle.std.proofs.Common.{◌≡◌, ◌≢◌, ℕ, suc, ◌+◌, ◌-◌, ◌^◌, ◌<◌, ◌≤◌, max, true, cond, eqb, leb, List, [], ◌∷◌, length, map, filter, fold, refl, sym, ap, subst, ◌∙◌, arith, inl, inr}
 use Rattle.std.specs.Prelude.{◌==◌, nat_eq, IsTrue}
 use Rattle.std.specs.List.{list_all}
 use Rattle.std.specs.Cmp.Lexicographic.{pointwise, same_text}
@@ -9,7 +9,7 @@ use Rattle.cg_base.specs.Sets.{IsId, Ascends}
 use Rattle.cg_base.specs.Replicas.{every_replica}
 use Rattle.cg_base.specs.Lists.{count_up, above_up_to, Each}
 use Rattle.cg_base.specs.ListLaws.{length-count_up}
-use Rattle.cg_base.specs.Cuts.{index_in, with_top, raise, creators_in}
+use Rattle.cg_base.specs.Cuts.{index_in, raise, creators_in}
 use Rattle.cg_base.specs.CutLimits.{IsCut, NameActions}
 use Rattle.cg_base.specs.CutLaws.{AreNames, index_in-before, index_in-raise, IsCut-raise, IsCut-raised, index_in-first}
 use Rattle.cg_base.specs.IdLaws.{same_name}
@@ -21,6 +21,7 @@ use Rattle.cg_records.specs.Limits.{IsIndex}
 use Rattle.cg_disk_records.specs.Agreeing.{indexes_of, count_to, counts_up}
 use Rattle.cg_disk_records.specs.NameLaws.{names-within}
 use Rattle.cg_store.specs.Leading.{AreNext, LeadTo, IsBelow}
+use Rattle.cg_records.specs.CutLaws.{raise-indexed}
 
 -- the indexes of a creator's names, in the order of the list
 abbrev pub indexes_in : List ActionId → ℕ → List ℕ
@@ -183,28 +184,6 @@ index_in-small (t ∷ cut) p each = elim (cases_eq t.creator p) [
   | inr other ↦ rw (ne_eqb t.creator p other) (index_in-small cut p each.1)
 ]
 
-abbrev Indexed : List ActionId → Type 0
-Indexed cut = Each (λ top. IsIndex top.index) cut
-
-indexed_if : (b : Bool) (c d : List ActionId) → Indexed c → Indexed d → Indexed (if b then c else d)
-indexed_if true c d kc kd = kc
-indexed_if false c d kc kd = kd
-
-with_top_indexed : (cut : List ActionId) (id : ActionId) → 1 ≤ id.index → id.index < 2 ^ 63 → Indexed cut → Indexed (with_top cut id)
-with_top_indexed [] id from below all = ((from, below), tt)
-with_top_indexed (top ∷ cut) id from below all =
-    let top_from : 1 ≤ top.index = all.0.0 in
-    let top_below : top.index < 2 ^ 63 = all.0.1 in
-    indexed_if (top.creator == id.creator) _ _ ((omega arith, omega arith), all.1)
-    (indexed_if (nat_lt id.creator top.creator) _ _ ((from, below), all) (all.0, with_top_indexed cut id from below all.1))
-
-pub raise_indexed : (cut : List ActionId) (id : ActionId) → id.index < 2 ^ 63 → Each (λ top. IsIndex top.index) cut → Each (λ top. IsIndex top.index) (raise cut id)
-raise_indexed cut id below all = at (cases_eq id.index 0)
-  where
-    at : (id.index ≡ 0) ⊎ (id.index ≢ 0) → Indexed (raise cut id)
-    at (inl none) = rw (eq-eqb id.index 0 none) all
-    at (inr some) = rw (ne_eqb id.index 0 some) (with_top_indexed cut id (omega (arith, some)) below all)
-
 -- the same of the replicas up to a slot, and nothing of the others
 pub record IsBelowTo (cut : List ActionId) (actions : List Action) (slot : ℕ) (below : List ActionId) : Type 0 where
   pub is_cut : IsCut below
@@ -240,7 +219,7 @@ module _ (cut : List ActionId) (actions : List Action) (slot : ℕ) (below : Lis
   pub below-step : IsBelowTo cut actions (slot + 1) (raise below next)
   below-step = record {
     is_cut = IsCut-raise below next (omega arith, omega arith) (omega (arith, next-small)) so_far.is_cut;
-    indexes = raise_indexed below next next-small so_far.indexes;
+    indexes = raise-indexed below next next-small so_far.indexes;
     each = below-each;
   }
 

@@ -1,8 +1,5 @@
 -- Runs of device calls, one behind the other.
-use Rattle.std.proofs.Common.{◌≡◌, ℕ, ◌+◌, ◌≤◌, ◌<◌, inl, inr, ⊎_elim, Option, Some, None, IfSome, refl, sym, ◌∙◌, ap, arith}
-use Rattle.std.specs.Option.{option_map}
-use Rattle.cg_disk.specs.Sides.{Image}
-use Rattle.cg_disk.specs.State.{DiskState}
+use Rattle.std.proofs.Common.{◌≡◌, ℕ, ◌+◌, ◌≤◌, refl, sym, ◌∙◌, arith}
 use Rattle.cg_disk.specs.View.{DiskView, IsView, LeavesOnly}
 use Rattle.cg_journal.specs.Strikes.{IsUnstruck}
 use Rattle.cg_journal.specs.ViewLaws.{ahead_of, chained, still_armed, struck_more, unstruck_more}

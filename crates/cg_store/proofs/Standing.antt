@@ -15,6 +15,7 @@ use Rattle.cg_disk_records.specs.Stored.{Stored}
 use Rattle.cg_disk_records.specs.Checkpoint.{size_with, empty_size}
 use Rattle.cg_disk_records.specs.Parts.{Saved, checkpoint_in}
 use Rattle.cg_store.specs.Stands.{led_by, led_by_all, size_of, Live, live_from, live_on, OnDisk, standing_on, chosen, standing_in, stands_for, led, moved, begun}
+use Rattle.cg_codec.specs.PlainLaws.{length-number32}
 
 -- a side of this generation comes before the other one
 abbrev Leads : Side → ℕ → Option Live → Type 0
@@ -212,10 +213,6 @@ pub standing_size : (id : ℕ) (r : Records) (u : OnDisk) → standing_in id r �
 standing_size id r u is =
     let parts = standing_parts id r u is in
     sym parts.size ∙ live_size id parts.bodies parts.live parts.on ∙ ap size_of parts.are
-
-length-number32 : (n : ℕ) → length (number32 n) ≡ 4
-unfolding number32
-length-number32 n = refl
 
 size_on : (n : ℕ) (bodies : List (List ℕ)) → fold size_with n bodies ≡ n + length (spelled bodies)
 size_on n [] = omega arith

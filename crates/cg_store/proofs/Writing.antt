@@ -3,7 +3,7 @@ use Rattle.std.proofs.Common.{◌≡◌, inl, inr, ⊎_elim, ℕ, List, Bool, tr
 use Rattle.std.specs.Prelude.{if◌then◌else◌}
 use Rattle.cg_disk.specs.Sides.{Image}
 use Rattle.cg_disk.specs.State.{left_by}
-use Rattle.cg_disk.specs.View.{DiskView, IsView, IsAtRest, LeavesOnly}
+use Rattle.cg_disk.specs.View.{DiskView, IsAtRest}
 use Rattle.cg_disk.specs.declared.disk.Side.{Side}
 use Rattle.cg_journal.specs.Records.{Records, records}
 use Rattle.cg_journal.specs.Adds.{IsLostIn, IsEither as IsOneOf, gate_stands}
@@ -90,8 +90,5 @@ lost_closing id call side before closed u old new is first second =
 -- ---- moments
 
 -- no call was made
-pub unmoved : (d : DiskView) (P : Image → Type 0) → IsView d → ((c : Image) → d.may_leave c → P c) → LeavesOnly d d P
-unmoved d P is here = record { later = omega arith; each = λ c left. here c (is.only_now c left); before = λ t c le left. inl left }
-
 pub stands_at_rest : (id : ℕ) (d : DiskView) (u : OnDisk) (c : Image) → IsAtRest d → Stands id d.reads u → d.may_leave c → Stands id c u
 stands_at_rest id d u c rest is left = ap (λ x. stands_for id (records x)) (rest.only c left) ∙ is

@@ -1,10 +1,8 @@
 -- How an event ends: with its commit, and behind a commit that left its side too long with a checkpoint.
-use Rattle.std.proofs.Common.{◌≡◌, ◌⊎◌, inl, inr, ⊎_elim, ℕ, ◌+◌, ◌≤◌, nat_lt, [], Bool, true, false, Some, Result, Ok, Err, refl, sym, ◌∙◌, ap, subst, arith}
-use Rattle.std.specs.Option.{option_map}
+use Rattle.std.proofs.Common.{◌≡◌, ◌⊎◌, inl, inr, ⊎_elim, ℕ, ◌+◌, nat_lt, [], Bool, true, false, Result, Ok, Err, refl, sym, ◌∙◌, ap, subst, arith}
 use Rattle.cg_disk.specs.Sides.{Image}
-use Rattle.cg_disk.specs.State.{DiskState}
 use Rattle.cg_disk.specs.View.{DiskView, LeavesOnly}
-use Rattle.cg_journal.specs.Strikes.{IsUnstruck, IsStruck}
+use Rattle.cg_journal.specs.Strikes.{IsUnstruck}
 use Rattle.cg_client.specs.Replica.{Held}
 use Rattle.cg_client.specs.declared.parts.DraftParts.{DraftParts}
 use Rattle.cg_disk_records.specs.Stored.{stored_of}

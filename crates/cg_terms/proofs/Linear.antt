@@ -1,12 +1,12 @@
 -- The global order is a sequential history that stands for the run.
-use Rattle.std.proofs.Common.{◌≡◌, List, [], ◌∷◌, ◌++◌, fold, Option, Some, Contains, refl, sym, ap, ap₂, ◌∙◌, subst, inl, inr, append_assoc}
+use Rattle.std.proofs.Common.{◌≡◌, List, [], ◌∷◌, ◌++◌, Option, Some, Contains, refl, sym, ap, ap₂, ◌∙◌, subst, inl, inr, append_assoc}
 use Rattle.std.specs.Prelude.{option_map}
 use Rattle.std.proofs.lemmas.List.Elements.{Contains-append_cases}
 use Rattle.cg_base.specs.declared.action_id.ActionId.{ActionId}
 use Rattle.cg_action.specs.declared.action.Action.{Action}
 use Rattle.cg_action.specs.declared.answer.Answer.{Answer}
 use Rattle.cg_action.specs.declared.entry.DbEntry.{DbEntry}
-use Rattle.cg_db.specs.Apply.{apply, fold_actions}
+use Rattle.cg_db.specs.Apply.{apply, fold_actions, fold_actions_from}
 use Rattle.cg_db.specs.Find.{answer, query_of}
 use Rattle.cg_queue.specs.Queue.{names_of}
 use Rattle.cg_report.specs.declared.entry.Reply.{Reply}
@@ -23,14 +23,11 @@ use Rattle.cg_model.specs.RunLaws.{through-append, order-append}
 
 -- ---- the sequential object
 
-abbrev behind : List DbEntry → List Action → List DbEntry
-behind db actions = fold (λ db action. (apply db action).db) db actions
-
 abbrev answered : List DbEntry → Action → Option Answer
 answered db a = option_map (answer (apply db a).db) (query_of a.kind)
 
-responses-at : (db : List DbEntry) (before : List Action) (a : Action) (after : List Action) (r : Reply) → r.id ≡ a.id → r.effect ≡ (apply (behind db before) a).effect →
-    r.answer ≡ answered (behind db before) a → Contains (responses db (before ++ a ∷ after)) r
+responses-at : (db : List DbEntry) (before : List Action) (a : Action) (after : List Action) (r : Reply) → r.id ≡ a.id → r.effect ≡ (apply (fold_actions_from db before) a).effect →
+    r.answer ≡ answered (fold_actions_from db before) a → Contains (responses db (before ++ a ∷ after)) r
 responses-at db [] a after r name effect told =
     let reply : Reply = record { id = a.id; effect = (apply db a).effect; answer = answered db a } in
     let same : reply ≡ r = λ i. record { id = sym name i; effect = sym effect i; answer = sym told i } in

@@ -1,7 +1,7 @@
 -- A transcript of a write, a partition, a crash and a recovery, and a read that finds the write: each guarantee holds of it, so none asks too
 -- much.
 use Rattle.std.specs.Prelude.{◌≡◌, ℕ, ◌==◌, ◌≤◌, false, take, cond, List, [], ◌∷◌, ◌++◌, Option, Some, None, Contains, IsTrue, codes, option_and_then, find, length}
-use Rattle.std.specs.Option.{option_map_or, option_or}
+use Rattle.std.specs.Option.{option_or}
 use Rattle.std.proofs.Common.{refl, sym, ap, ◌∙◌, subst, inl, inr, arith, append_assoc, append-nil}
 use Rattle.std.proofs.lemmas.Bool.{cases_Bool, cond-true, cond-false, cond_both, eqb-true}
 use Rattle.cg_base.specs.declared.action_id.ActionId.{ActionId}
@@ -35,6 +35,7 @@ use Rattle.cg_terms.proofs.Linear.{IsReplyIn, Grounds, strongly-linearizable}
 use Rattle.cg_terms.proofs.Kept.{position-grows, shown-grows, own-writes}
 use Rattle.cg_terms.proofs.Transcripts.{name, showing, up_with, at, servers, x_is, replica_with, one_applied, one_done, done, the_action, asks_one, finds_one, strong-is_linearizable}
 use Rattle.cg_base.specs.ElementLaws.{contains-none, contains-cases, contains-at}
+use Rattle.cg_model.specs.ShowLaws.{count_of}
 
 -- ---- the transcript
 
@@ -200,9 +201,6 @@ strong : StronglyLinearizable right
 strong = strongly-linearizable right grounds
 
 -- ---- positions, and what each replica holds
-
-abbrev count_of : Option UpLine → ℕ
-count_of o = option_map_or (λ up. up.view.green_count) o 0
 
 -- a line doesn't take back what its replica has shown, where its own count doesn't
 no_less : (p id : ℕ) (u o : Option UpLine) → (id ≡ p → count_of o ≤ count_of (option_or u o)) → count_of o ≤ count_of (cond (id == p) (option_or u o) o)

@@ -1,6 +1,6 @@
 -- Numbers are read as they are printed, and no other way.
 use Rattle.std.proofs.Common.{◌≡◌, ℕ, zero, suc, ◌^◌, ◌<◌, Bool, true, false, cond, eqb, List, [], ◌∷◌, length, get_or, Option, Some, None, Ok, Err, refl, sym, ap, ◌∙◌, arith, rules}
-use Rattle.std.specs.Prelude.{fold, ℤ, pos, negsuc, decimal, option_and_then, option_map, ◌==◌}
+use Rattle.std.specs.Prelude.{ℤ, pos, negsuc, decimal, option_and_then, option_map, ◌==◌}
 use Rattle.std.specs.Fmt.{signed_decimal}
 use Rattle.std.specs.List.{list_all}
 use Rattle.std.proofs.lemmas.Bool.{eqb-true, eqb-false, ne_eqb, ltb-true, lt-ltb}
@@ -9,12 +9,12 @@ use Rattle.std.proofs.lemmas.Int.{ints}
 use Rattle.std.specs.Int.{w64}
 use mir.Val.{SFits}
 use Rattle.std.proofs.lemmas.Option.{cond_some, same_Some, option_and_then_some}
-use Rattle.std.proofs.lemmas.Str.Parse.{IsNumeralModel, numerals_by_fold}
 use Rattle.std.proofs.lemmas.Fmt.{decimal_digit, decimal_nonempty, first_decimal, digits_decimal, digits_value-decimal, decimal-digits_value}
 use Rattle.cg_text.specs.declared.fault.TextFault.{TextFault}
 use Rattle.cg_text.specs.declared.fault.TextFault.TheVariants.{NotANumber, TooLarge}
 use Rattle.cg_text.specs.Fault.{fitting, IsSpelling}
-use Rattle.cg_text.specs.Numbers.{is_digit, with_digit, value_of_digits, is_plain, plain_number, negative, plain_integer, fits_u64, fits_i64, read_u64, read_i64}
+use Rattle.cg_text.specs.Numbers.{is_digit, value_of_digits, is_plain, plain_number, negative, plain_integer, fits_u64, fits_i64, read_u64, read_i64}
+use Rattle.cg_text.specs.NumberLaws.{digits_are_numerals}
 
 -- ---- what was read
 
@@ -30,9 +30,6 @@ fitting-ok {X = X} spelling size is_small (Some y) x e =
     by_test false v f = absurd cc
 
 -- ---- digits
-
-own : IsNumeralModel (λ digits. list_all is_digit digits ≡ true) (λ digits. fold with_digit 0 digits)
-own = numerals_by_fold _ (search rules) (λ n digits. fold with_digit n digits) (search rules)
 
 -- digits of which the first is 0 only where it stands alone
 record ArePlain (digits : List ℕ) : Type 0 where
@@ -61,7 +58,7 @@ ArePlain-from (digit ∷ digits) e = by_zero (eqb digit 48) refl
 
 -- what is printed is plain, and has the number's value
 decimal-plain : (n : ℕ) → n < 2 ^ 64 → plain_number (decimal n) ≡ Some n
-decimal-plain n small = rw (is_plain-from (decimal n) record { all = digits_decimal own n small; some = decimal_nonempty n small; first = first n small }, digits_value-decimal own n small) refl
+decimal-plain n small = rw (is_plain-from (decimal n) record { all = digits_decimal digits_are_numerals n small; some = decimal_nonempty n small; first = first n small }, digits_value-decimal digits_are_numerals n small) refl
   where
     first : (m : ℕ) → m < 2 ^ 64 → get_or (decimal m) 0 0 ≡ 48 → length (decimal m) ≡ 1
     first zero lt is = rw (decimal_digit 0 (omega arith)) refl
@@ -72,7 +69,7 @@ plain_number-decimal : (bytes : List ℕ) (n : ℕ) → n < 2 ^ 64 → plain_num
 plain_number-decimal bytes n small e =
     let g = cond_some (is_plain bytes) (value_of_digits bytes) n e in
     let plain = ArePlain-from bytes g.0 in
-    let same : decimal (value_of_digits bytes) ≡ bytes = decimal-digits_value own bytes plain.all plain.some plain.first (rw g.1 small) in
+    let same : decimal (value_of_digits bytes) ≡ bytes = decimal-digits_value digits_are_numerals bytes plain.all plain.some plain.first (rw g.1 small) in
     sym same ∙ ap decimal g.1
 
 pub u64_spelling : IsSpelling (λ n. n < 2 ^ 64) decimal read_u64

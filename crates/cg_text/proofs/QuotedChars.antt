@@ -1,28 +1,20 @@
 -- What stands between quotes, character by character.
-use Rattle.std.proofs.Common.{◌≡◌, ◌≢◌, ℕ, suc, ◌<◌, ◌≤◌, List, [], ◌∷◌, ◌++◌, length, get_or, refl, sym, ap, ap₂, ◌∙◌, arith, inl, inr}
+use Rattle.std.proofs.Common.{◌≡◌, ◌≢◌, ℕ, List, [], ◌∷◌, ◌++◌, get_or, refl, sym, ap, ◌∙◌, arith, inl, inr}
 use Rattle.std.specs.List.{flat_map}
-use Rattle.std.proofs.lemmas.Bool.{cases_lt, ne_eqb}
+use Rattle.std.proofs.lemmas.Bool.{cases_lt}
 use Rattle.std.proofs.lemmas.List.{append-nil}
 use Rattle.std.proofs.lemmas.List.Concat.{flat_map-append}
 use Rattle.std.proofs.lemmas.Str.{encode_ascii, encodes-append, inside_one}
 use lib.Utf8.{encode, encodes}
 use Rattle.cg_text.specs.Quoted.{escaped}
-
-escaped_plain : (byte : ℕ) → byte ≢ 34 → byte ≢ 92 → escaped byte ≡ byte ∷ []
-escaped_plain byte quote backslash = rw (ne_eqb byte 34 quote, ne_eqb byte 92 backslash) refl
+use Rattle.cg_text.specs.QuotedLaws.{escaped_plain, escaped-high}
 
 -- bytes that are no characters by themselves stand as they are
-all_high : (bytes : List ℕ) → ((k : ℕ) → k < length bytes → 128 ≤ get_or bytes k 0) → flat_map escaped bytes ≡ bytes
-all_high [] high = refl
-all_high (byte ∷ bytes) high =
-    let first : 128 ≤ byte = high 0 (omega arith) in
-    ap₂ (λ (a b : List ℕ). a ++ b) (escaped_plain byte (λ e. absurd (omega arith)) (λ e. absurd (omega arith))) (all_high bytes (λ k below. high (suc k) (omega arith)))
-
 -- a character that isn't special stands as it is
 pub plain_char : (c : ℕ) → c ≢ 34 → c ≢ 92 → flat_map escaped (encode c) ≡ encode c
 plain_char c quote backslash = elim (cases_lt c 128) [
   | inl small ↦ rw (encode_ascii c small, escaped_plain c quote backslash) refl
-  | inr big ↦ all_high (encode c) (λ k below. elim (cases_lt (get_or (encode c) k 0) 128) [
+  | inr big ↦ escaped-high (encode c) (λ k below. elim (cases_lt (get_or (encode c) k 0) 128) [
     | inl low ↦ absurd (omega (arith, inside_one c [] (encode c) k (sym (append-nil (encode c))) below low))
     | inr high ↦ high
   ])

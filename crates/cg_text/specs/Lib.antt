@@ -4,3 +4,6 @@ pub mod Numbers
 pub mod Quoted
 pub mod Printable
 pub mod Tokens
+pub mod NumberLaws
+pub mod OrderLaws
+pub mod QuotedLaws

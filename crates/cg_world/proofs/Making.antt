@@ -4,7 +4,6 @@ use Rattle.std.specs.Prelude.{◌==◌, nat_le}
 use Rattle.std.proofs.lemmas.Bool.{cases_eq, cases_lt, cond-true, cond-false, ne_eqb, lt-ltb, le-leb, lt-leb}
 use Rattle.std.proofs.lemmas.List.{length-append}
 use Rattle.std.proofs.lemmas.List.Elements.{filter-append}
-use Rattle.cg_base.specs.Lists.{Each}
 use Rattle.cg_base.specs.EachLaws.{Each-weaker, Each-append, Each-filter, Each-get}
 use Rattle.cg_base.specs.declared.action_id.ActionId.{ActionId}
 use Rattle.cg_base.specs.Ids.{same_id}
@@ -17,12 +16,9 @@ use Rattle.cg_model.specs.Chronicle.{Chronicle}
 use Rattle.cg_model.specs.Making.{newly_made, made_by, AreNextOf, IsMade}
 use Rattle.cg_world.specs.Led.{AreMade, IsLedWith, IsInBook}
 use Rattle.cg_world.specs.MadeActions.{action_at, made_named}
+use Rattle.cg_model.specs.MadeRowLaws.{next-append}
 
 -- ---- all that was made, behind a step
-
-next-append : (p n m : ℕ) (xs ys : List Action) → AreNextOf p n xs → m ≡ n + length xs → AreNextOf p m ys → AreNextOf p n (xs ++ ys)
-next-append p n m [] ys first at rest = subst (λ k. AreNextOf p k ys) (let none : m ≡ n = omega arith in none) rest
-next-append p n m (a ∷ xs) ys first at rest = (first.0, next-append p (suc n) m xs ys first.1 (omega arith) rest)
 
 own-append : (p : ℕ) (made list : List Action) → made_by p (made ++ list) ≡ made_by p made ++ made_by p list
 own-append p made list = filter-append (λ (a : Action). a.id.creator == p) made list

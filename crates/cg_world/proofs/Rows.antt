@@ -1,18 +1,10 @@
 -- Rows at places.
-use Rattle.std.proofs.Common.{◌≡◌, ℕ, zero, suc, ◌<◌, ◌≤◌, ◌≢◌, List, [], ◌∷◌, ◌++◌, length, set, get_or, None, slice_get, refl, sym, ap, ◌∙◌, arith, inl, inr, eq-eqb}
-use Rattle.std.specs.Prelude.{◌==◌}
-use Rattle.std.proofs.lemmas.Bool.{cases_eq, cond-true, cond-false, ne_eqb}
-use Rattle.std.proofs.lemmas.List.{append-nil}
-use Rattle.std.proofs.lemmas.List.Elements.{filter-append}
+use Rattle.std.proofs.Common.{◌≡◌, ℕ, zero, suc, ◌<◌, ◌≢◌, List, [], ◌∷◌, ◌++◌, length, set, get_or, None, slice_get, refl, sym, ap, ◌∙◌, arith, inl, inr}
+use Rattle.std.proofs.lemmas.Bool.{cases_eq}
 use Rattle.cg_base.specs.Lists.{at_place}
 use Rattle.cg_action.specs.declared.action.Action.{Action}
-use Rattle.cg_model.specs.Making.{made_by}
-use Rattle.cg_world.specs.MadeActions.{row_at, AreRowsOf}
-
-pub row-behind : (rows : List (List Action)) (k : ℕ) → length rows ≤ k → row_at rows k ≡ []
-row-behind [] k le = refl
-row-behind (row ∷ rows) zero le = absurd (omega arith)
-row-behind (row ∷ rows) (suc k) le = row-behind rows k (omega arith)
+use Rattle.cg_world.specs.MadeActions.{row_at}
+use Rattle.cg_model.specs.MadeRowLaws.{AreRowsOf, made_by-own, made_by-other}
 
 pub row-there : (rows : List (List Action)) (k : ℕ) (row : List Action) → k < length rows → row_at rows k ≡ get_or rows k row
 row-there [] k row less = absurd (omega arith)
@@ -39,17 +31,6 @@ set-other (r ∷ rows) (suc slot) row (suc k) apart = set-other rows slot row k 
 
 -- ---- one action more
 
-with-own : (made : List Action) (a : Action) (p : ℕ) → a.id.creator ≡ p → made_by p (made ++ a ∷ []) ≡ made_by p made ++ a ∷ []
-with-own made a p mine =
-    filter-append (λ (a : Action). a.id.creator == p) made (a ∷ [])
-    ∙ ap (λ (own : List Action). made_by p made ++ own) (cond-true (a.id.creator == p) (a ∷ []) [] (eq-eqb a.id.creator p mine))
-
-with-other : (made : List Action) (a : Action) (p : ℕ) → a.id.creator ≢ p → made_by p (made ++ a ∷ []) ≡ made_by p made
-with-other made a p other =
-    filter-append (λ (a : Action). a.id.creator == p) made (a ∷ [])
-    ∙ ap (λ (own : List Action). made_by p made ++ own) (cond-false (a.id.creator == p) (a ∷ []) [] (ne_eqb a.id.creator p other))
-    ∙ append-nil (made_by p made)
-
 -- it is written behind its creator's row
 pub rows-with : (made : List Action) (rows : List (List Action)) (a : Action) (slot : ℕ) (row : List Action) → slot ≡ a.id.creator → slot < length rows →
     row ≡ row_at rows slot ++ a ∷ [] → AreRowsOf made rows → AreRowsOf (made ++ a ∷ []) (set rows slot row)
@@ -57,8 +38,8 @@ rows-with made rows a slot row own less is are k = elim (cases_eq a.id.creator k
   | inl mine ↦
       let here = own ∙ mine in
       ap (row_at (set rows slot row)) (sym here) ∙ set-here rows slot row less ∙ is ∙ ap (λ n. row_at rows n ++ a ∷ []) here
-      ∙ ap (λ (list : List Action). list ++ a ∷ []) (are k) ∙ sym (with-own made a k mine)
-  | inr other ↦ set-other rows slot row k (λ e. other (sym own ∙ e)) ∙ are k ∙ sym (with-other made a k other)
+      ∙ ap (λ (list : List Action). list ++ a ∷ []) (are k) ∙ sym (made_by-own made a k mine)
+  | inr other ↦ set-other rows slot row k (λ e. other (sym own ∙ e)) ∙ are k ∙ sym (made_by-other made a k other)
 ]
 
 -- ---- what is looked up

@@ -1,5 +1,5 @@
 -- The made actions, in a row for each creator.
-use Rattle.std.specs.Prelude.{◌≡◌, ℕ, zero, suc, List, [], ◌∷◌, Option, find}
+use Rattle.std.specs.Prelude.{List, [], Option, find}
 use Rattle.cg_base.specs.declared.action_id.ActionId.{ActionId}
 use Rattle.cg_base.specs.Ids.{same_id}
 use Rattle.cg_base.specs.Lists.{at_place}
@@ -8,9 +8,6 @@ use Rattle.cg_action.specs.declared.action.Action.{Action}
 use Rattle.cg_model.specs.Making.{made_by}
 
 -- each creator's row has those that it made, in their order
-abbrev pub AreRowsOf : List Action → List (List Action) → Type 0
-AreRowsOf made rows = (p : ℕ) → row_at rows p ≡ made_by p made
-
 -- the action in the place of this name's number among those of its creator
 abbrev pub action_at : List Action → ActionId → Option Action
 action_at made id = at_place (made_by id.creator made) id.index

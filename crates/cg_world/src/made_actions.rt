@@ -29,7 +29,7 @@ impl Drop for MadeActions {
 impl Model for MadeActions {
     ghost use Rattle.std.specs.Prelude.{List};
     ghost use Rattle.cg_action.specs.declared.action.Action.{Action};
-    ghost use Rattle.cg_world.specs.MadeActions.{AreRowsOf};
+    ghost use Rattle.cg_model.specs.MadeRowLaws.{AreRowsOf};
 
     ghost Value = { List Action };
 

@@ -1,7 +1,7 @@
 use Rattle.std.specs.Prelude.{Some, None, IsOk}
 use Rattle.cg_db.proofs.ViewLemmas.{of_entries-updated}
-use Rattle.cg_db.proofs.PlanLemmas.{OnOk_then}
 use Rattle.cg_db.proofs.db.write_one.Goals as goal
+use Rattle.cg_base.specs.ResultLaws.{OnOk_then}
 
 pub returns-in-Some-clause-changed : goal.returns-in-Some-clause-changed
 returns-in-Some-clause-changed c =

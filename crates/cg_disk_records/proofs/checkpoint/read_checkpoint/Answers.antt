@@ -1,7 +1,7 @@
 use Rattle.std.proofs.Common.{sym, ◌∙◌}
-use Rattle.cg_disk_records.proofs.ChangeFields.{numbered}
 use Rattle.cg_disk_records.proofs.StandingLaws.{checkpoint-told, checkpoint-none}
 use Rattle.cg_disk_records.proofs.checkpoint.read_checkpoint.Goals as goal
+use Rattle.cg_codec.specs.FaultLaws.{numbered}
 
 pub returns-in-Ok : goal.returns-in-Ok
 returns-in-Ok c = checkpoint-told c.args.id c.args.bytes.now c.in-Ok.checkpoint c.of.result c.holds.ensures c.in-Ok.ensures.exact.0 c.in-Ok.ensures.read c.of.ensures

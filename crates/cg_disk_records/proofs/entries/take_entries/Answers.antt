@@ -4,8 +4,9 @@ use Rattle.cg_codec.specs.declared.fault.CodecFault.TheVariants.{NoMemory}
 use Rattle.cg_codec.specs.Taking.{unread_of}
 use Rattle.cg_codec.specs.ItemLaws.{items_end, items_stop_unless}
 use Rattle.cg_disk_records.specs.Reading.{entry_reading, entries_reading}
-use Rattle.cg_disk_records.proofs.EntryFields.{entry_is, entry_item, entry-utf8, EntriesSoFar-more}
+use Rattle.cg_disk_records.proofs.EntryFields.{entry_item, entry-utf8, EntriesSoFar-more}
 use Rattle.cg_disk_records.proofs.entries.take_entries.Goals as goal
+use Rattle.cg_db.specs.AscendingLaws.{entry}
 
 pub returns-in_err-last : goal.returns-in_err-last
 returns-in_err-last c =
@@ -20,10 +21,10 @@ returns-in_err-last c =
 
 pub entries-preserved : goal.entries-preserved
 entries-preserved c =
-    let entry = c.in_ok-last.ensures in (
+    let read = c.in_ok-last.ensures in (
       EntriesSoFar-more (entries_reading (unread_of c.args.fields.now)) c.in_ok-count.count c.entries.counter c.entries.last.now c.entries.db c.take_into.new.db (unread_of c.entries.after) (unread_of c.take_into.new.fields)
-          c.in_ok-last.last.now entry.0 c.entries.invariant.0 (omega arith) entry.1 entry.2,
-      entry-utf8 c.entries.last.now (entry_is c.in_ok-last.last.now entry.0) (unread_of c.entries.after) (unread_of c.take_into.new.fields) entry.1,
+          c.in_ok-last.last.now read.0 c.entries.invariant.0 (omega arith) read.1 read.2,
+      entry-utf8 c.entries.last.now (entry c.in_ok-last.last.now read.0) (unread_of c.entries.after) (unread_of c.take_into.new.fields) read.1,
     )
 
 pub returns : goal.returns

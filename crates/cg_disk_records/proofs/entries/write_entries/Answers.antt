@@ -9,7 +9,7 @@ use Rattle.cg_db.specs.View.{entry_at}
 use Rattle.cg_base.specs.Lists.{Each}
 use Rattle.cg_disk_records.specs.Checkpoint.{spelled_entry}
 use Rattle.cg_disk_records.proofs.Steps.{keeps_after}
-use Rattle.cg_disk_records.proofs.ListFields.{Each-at}
+use Rattle.cg_disk_records.specs.ListLaws.{Each-at}
 use Rattle.cg_disk_records.proofs.EntryFields.{keys-within, written-all}
 use Rattle.cg_disk_records.proofs.entries.write_entries.Goals as goal
 

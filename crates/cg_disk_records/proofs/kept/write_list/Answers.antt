@@ -5,7 +5,7 @@ use Rattle.cg_base.specs.TextLaws.{OnErr_from, KeepsFront-is, KeepsFront-through
 use Rattle.cg_codec.specs.Fields.{number32}
 use Rattle.cg_action.specs.Bytes.{spelled_action}
 use Rattle.cg_disk_records.specs.Kept.{list_in, spelled_next}
-use Rattle.cg_disk_records.proofs.ListFields.{next-left}
+use Rattle.cg_disk_records.specs.ListLaws.{next-left}
 use Rattle.cg_disk_records.proofs.kept.write_list.Goals as goal
 
 pub returns-in_err-put_next-clause-err : goal.returns-in_err-put_next-clause-err

@@ -1,6 +1,7 @@
 use Rattle.std.proofs.Common.{◌≡◌, [], sym, ◌∙◌}
-use Rattle.cg_made_rows.proofs.Growing.{row-there, row-past}
+use Rattle.cg_made_rows.proofs.Growing.{row-there}
 use Rattle.cg_made_rows.proofs.rows.row_of.Goals as goal
+use Rattle.cg_base.specs.ListLaws.{row_at-past}
 
 pub returns-in-Some : goal.returns-in-Some
 returns-in-Some c =
@@ -12,4 +13,4 @@ pub returns-in-None : goal.returns-in-None
 returns-in-None c =
     let slot : c.from.result ≡ c.args.p = c.from.ensures ∙ c.get.ensures.value in
     let missing = rw slot at c.in-None.ensures.lookup in
-    sym (row-past c.args.rows.now c.args.p missing.3)
+    sym (row_at-past c.args.rows.now c.args.p missing.3)

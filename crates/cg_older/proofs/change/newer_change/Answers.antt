@@ -1,6 +1,7 @@
 use Rattle.std.proofs.Common.{sym, ◌∙◌}
-use Rattle.cg_older.proofs.ChangeFields.{change-same, change-none, numbered}
+use Rattle.cg_older.proofs.ChangeFields.{change-same, change-none}
 use Rattle.cg_older.proofs.change.newer_change.Goals as goal
+use Rattle.cg_codec.specs.FaultLaws.{numbered}
 
 pub returns-in_ok-bytes_of_change-in-Ok : goal.returns-in_ok-bytes_of_change-in-Ok
 returns-in_ok-bytes_of_change-in-Ok c =

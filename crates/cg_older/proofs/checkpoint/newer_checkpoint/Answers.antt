@@ -1,7 +1,7 @@
 use Rattle.std.proofs.Common.{sym, ◌∙◌}
-use Rattle.cg_older.proofs.ChangeFields.{numbered}
 use Rattle.cg_older.proofs.StandingLaws.{newer-told, checkpoint-none}
 use Rattle.cg_older.proofs.checkpoint.newer_checkpoint.Goals as goal
+use Rattle.cg_codec.specs.FaultLaws.{numbered}
 
 pub returns-in-Ok : goal.returns-in-Ok
 returns-in-Ok c =

@@ -10,8 +10,9 @@ use Rattle.cg_base.specs.AscendingLaws.{AllBelow-more}
 use Rattle.cg_records.specs.RecordLaws.{map-push}
 use Rattle.cg_records.specs.ItemLoopLaws.{ReadSoFar-none, ReadSoFar-more}
 use Rattle.cg_older.specs.Reading.{old_server_reading, old_servers_reading}
-use Rattle.cg_older.proofs.ServerFields.{server-ok, with_server-last}
+use Rattle.cg_older.proofs.ServerFields.{server-ok}
 use Rattle.cg_older.proofs.servers.take_old_servers.Goals as goal
+use Rattle.cg_members.specs.MemberLaws.{with_server-last}
 
 pub servers-init : goal.servers-init
 unfolding old_servers_reading

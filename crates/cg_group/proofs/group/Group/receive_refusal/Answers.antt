@@ -3,7 +3,7 @@ use Rattle.cg_base.specs.Lists.{first_some, at_place}
 use Rattle.cg_group.specs.declared.reason.Reason.TheVariants.{NoSuchPlace}
 use Rattle.cg_group.specs.Refusals.{not_up, not_regular, no_such_place, receive_refusal, refuse}
 use Rattle.cg_group.specs.Logs.{place_refusal}
-use Rattle.cg_group.proofs.LogFacts.{no_place}
+use Rattle.cg_base.specs.ListLaws.{at_place-nil}
 use Rattle.cg_group.proofs.FirstReasons.{first_here, first_later, first_two}
 use Rattle.cg_group.proofs.group.Group.receive_refusal.Goals as goal
 
@@ -27,4 +27,4 @@ returns-in-None-home g c =
     ∙ first_later (first_some (not_up c.args.self.now c.args.p ∷ not_regular c.args.self.now c.args.p ∷ [])) _ (sym c.not_regular.ensures ∙ c.in-None.is)
     ∙ first_here (no_such_place c.args.self.now c.args.p c.args.place) _ (NoSuchPlace c.args.place)
     (ap (λ x. refuse (is_none (at_place x.ordered c.args.place)) (NoSuchPlace c.args.place)) c.in-None-home.ensures
-    ∙ ap (λ o. refuse (is_none o) (NoSuchPlace c.args.place)) (no_place _ c.args.place)))
+    ∙ ap (λ o. refuse (is_none o) (NoSuchPlace c.args.place)) (at_place-nil c.args.place)))

@@ -1,8 +1,9 @@
 use Rattle.std.proofs.Common.{◌≡◌, ◌∙◌, ◌-◌, ◌<◌, ◌≤◌, suc, length, slice_get, sym, ap, arith}
 use Rattle.cg_model.specs.Making.{made_by}
 use Rattle.cg_world.specs.MadeActions.{row_at}
-use Rattle.cg_world.proofs.Rows.{row-behind, row-there, none-at, first-at}
+use Rattle.cg_world.proofs.Rows.{row-there, none-at, first-at}
 use Rattle.cg_world.proofs.made_actions.MadeActions.get.Goals as goal
+use Rattle.cg_base.specs.ListLaws.{row_at-past}
 
 pub returns-then-len-slot : goal.returns-then-len-slot
 returns-then-len-slot c =
@@ -11,7 +12,7 @@ returns-then-len-slot c =
     let long = rows.ok.0 in
     let at = c.get-slot.ensures.value in
     let behind : length rows.items ≤ p = omega arith in
-    none-at (made_by p c.args.self.now) c.args.id.index (sym (c.self.invariant p ∙ ap (made_by p) c.self.view_is) ∙ row-behind rows.items p behind)
+    none-at (made_by p c.args.self.now) c.args.id.index (sym (c.self.invariant p ∙ ap (made_by p) c.self.view_is) ∙ row_at-past rows.items p behind)
 
 pub returns : goal.returns
 returns c =

@@ -1,8 +1,8 @@
 use Rattle.std.proofs.Common.{◌∙◌, ◌<◌, ◌++◌, ◌∷◌, [], List, length, set, sym, ap, subst, arith}
 use Rattle.cg_action.specs.declared.action.Action.{Action}
-use Rattle.cg_world.specs.MadeActions.{AreRowsOf}
 use Rattle.cg_world.proofs.Rows.{row-there, rows-with}
 use Rattle.cg_world.proofs.made_actions.MadeActions.push.Goals as goal
+use Rattle.cg_model.specs.MadeRowLaws.{AreRowsOf}
 
 pub invariant_of-self-2 : goal.invariant_of-self-2
 invariant_of-self-2 c =

@@ -1,4 +1,4 @@
-use Rattle.std.proofs.Common.{◌≡◌, [], ap, ◌∙◌}
+use Rattle.std.proofs.Common.{[], ap, ◌∙◌}
 use Rattle.cg_disk_records.specs.Holds.{run_on}
 use Rattle.cg_model.specs.World.{World as WorldOf}
 use Rattle.cg_world.proofs.state.World.place_of.Goals as goal

@@ -38,6 +38,12 @@ IsPart {X} Ends Has spelled reading = Makes Ends Has spelled (λ (x : X). x) rea
 
 -- ---- what a reading gave
 
+abbrev pub read_as : {X : Type 0} → X → Result X LineFault
+read_as x = Ok x
+
+pub same_read : {X : Type 0} (x y : X) → read_as x ≡ read_as y → x ≡ y
+same_read x y e = cc
+
 abbrev pub gives : {X : Type 0} → X × List (List ℕ) → Given X
 gives x = Ok x
 
