@@ -3,12 +3,12 @@ use Rattle.std.proofs.Common.{◌≡◌, ℕ, ◌≤◌, ltb, Bool, true, false,
 use Rattle.std.proofs.lemmas.Bool.{and_parts, ltb-true, ltb-false}
 use Rattle.cg_base.specs.declared.action_id.ActionId.{ActionId}
 use Rattle.cg_base.specs.Ids.{has_name}
-use Rattle.cg_session.specs.declared.token.Behind.{Behind}
+use Rattle.cg_session.specs.declared.token.BehindErr.{BehindErr}
 use Rattle.cg_session.specs.Laws.{NeverFalls}
 use Rattle.cg_session.specs.Token.{Token, wrote, read, raises, replied}
 
 -- a state that is read
-abbrev seen : Token → Result Token Behind
+abbrev seen : Token → Result Token BehindErr
 seen t = Ok t
 
 same_seen : (a b : Token) → seen a ≡ seen b → a ≡ b

@@ -2,7 +2,7 @@
 use Rattle.std.specs.Prelude.{ℕ, nat_lt, Bool, ◌&&◌, List, [], ◌∷◌, ◌++◌, Result, Ok, Err, if◌then◌else◌}
 use Rattle.cg_base.specs.declared.action_id.ActionId.{ActionId}
 use Rattle.cg_base.specs.Ids.{has_name}
-use Rattle.cg_session.specs.declared.token.Behind.{Behind}
+use Rattle.cg_session.specs.declared.token.BehindErr.{BehindErr}
 
 -- the position, and the names of the written actions, in the order of the writes
 pub record Token : Type 0 where
@@ -17,7 +17,7 @@ abbrev pub wrote : Token → ActionId → Token
 wrote t id = if has_name t.written id then t else record t { written = t.written ++ id ∷ [] }
 
 -- a state at this position is read, unless it is behind what was seen
-abbrev pub read : Token → ℕ → Result Token Behind
+abbrev pub read : Token → ℕ → Result Token BehindErr
 read t pos = if nat_lt pos t.position then Err (record { have = pos; want = t.position })
     else Ok (record t { position = pos })
 

@@ -18,4 +18,4 @@ mod word;
 pub use event::SessionEvent;
 pub use laws::{printed_session_lines_are_read, session_lines_are_exact, tokens_never_fall};
 pub use reader::read_session;
-pub use token::{Behind, Token};
+pub use token::{BehindErr, Token};

@@ -9,7 +9,7 @@ use std::marker::Model;
 
 /// Why a session reads nothing.
 #[derive(Clone, Copy, Debug, PartialEq, Eq)]
-pub struct Behind {
+pub struct BehindErr {
     /// The position of what was to be read.
     pub have: u64,
     /// The position that the session has seen.
@@ -64,13 +64,13 @@ impl Token {
 
     /// Reads a state at a position, which is what the session has seen from here on. Where that is below what it has
     /// seen, nothing is read.
-    pub fn read(&mut self, pos: u64) -> Result<(), Behind>
+    pub fn read(&mut self, pos: u64) -> Result<(), BehindErr>
         ensures ok { OnOk result (read self.old pos ≡ Ok self.new) }
         ensures behind { IfErr result (λ b. read self.old pos ≡ Err b) }
         ensures err { OnErr result (self.new ≡ self.old) }
     {
         if pos < self.position {
-            return Err(Behind {
+            return Err(BehindErr {
                 have: pos,
                 want: self.position,
             });

@@ -9,7 +9,7 @@ use Rattle.cg_base.specs.declared.action_id.ActionId.{ActionId}
 use Rattle.cg_action.specs.declared.answer.Answer.{Answer}
 use Rattle.cg_group.specs.declared.reason.Reason.TheVariants.{SessionUsed}
 use Rattle.cg_group.specs.Refusals.{refuse}
-use Rattle.cg_session.specs.declared.token.Behind.{Behind}
+use Rattle.cg_session.specs.declared.token.BehindErr.{BehindErr}
 use Rattle.cg_session.specs.Token.{Token, raises, read, replied}
 use Rattle.cg_session_list.specs.declared.session.Session.{Session}
 use Rattle.cg_session_list.specs.declared.session_line.SessionLine.{SessionLine}
@@ -120,7 +120,7 @@ read-at s sessions i d answer pos t line apart at told is =
       old : Session
       old = get_or sessions i d
 
-      by : (r : Result Token Behind) → line ≡ read_line s answer pos r → t ≡ after_read old.token r → (i < length sessions) × ((old.id == s) ≡ true) × ((k : ℕ) → k < i → ((get_or sessions k d).id == s) ≡ false) →
+      by : (r : Result Token BehindErr) → line ≡ read_line s answer pos r → t ≡ after_read old.token r → (i < length sessions) × ((old.id == s) ≡ true) × ((k : ℕ) → k < i → ((get_or sessions k d).id == s) ≡ false) →
           noted (set sessions i (record { id = old.id; token = t })) (line ∷ []) ≡ read_as sessions s answer pos r
       by (Ok token) told is there =
           rw (told, changing-at s (λ (old : Token). token) sessions i d (record { id = old.id; token = t }) apart there.0 there.1 (ap (λ (t : Token). record { id = old.id; token = t }) is)) refl

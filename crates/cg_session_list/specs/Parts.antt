@@ -3,7 +3,7 @@ use Rattle.std.specs.Prelude.{ℕ, List, [], ◌∷◌, Result, Ok, Err, if◌th
 use Rattle.std.specs.Option.{option_map_or}
 use Rattle.cg_base.specs.declared.action_id.ActionId.{ActionId}
 use Rattle.cg_action.specs.declared.answer.Answer.{Answer}
-use Rattle.cg_session.specs.declared.token.Behind.{Behind as BehindIt}
+use Rattle.cg_session.specs.declared.token.BehindErr.{BehindErr}
 use Rattle.cg_session.specs.Token.{Token, raises, read}
 use Rattle.cg_session_list.specs.declared.session.Session.{Session}
 use Rattle.cg_session_list.specs.declared.session_line.SessionLine.{SessionLine}
@@ -14,12 +14,12 @@ abbrev pub noted : List Session → List SessionLine → SessionsNoted
 noted sessions lines = record { sessions = sessions; lines = lines }
 
 -- the line that tells of the read
-abbrev pub read_line : ℕ → Answer → ℕ → Result Token BehindIt → SessionLine
+abbrev pub read_line : ℕ → Answer → ℕ → Result Token BehindErr → SessionLine
 read_line s answer pos (Ok token) = Answered s answer pos
 read_line s answer pos (Err b) = Behind s b.have b.want
 
 -- what the session has seen behind it
-abbrev pub after_read : Token → Result Token BehindIt → Token
+abbrev pub after_read : Token → Result Token BehindErr → Token
 after_read old (Ok token) = token
 after_read old (Err b) = old
 

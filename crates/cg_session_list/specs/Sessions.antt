@@ -5,7 +5,7 @@ use Rattle.cg_action.specs.declared.answer.Answer.{Answer}
 use Rattle.cg_group.specs.declared.reason.Reason.{Reason}
 use Rattle.cg_group.specs.declared.reason.Reason.TheVariants.{UnknownSession, SessionUsed}
 use Rattle.cg_group.specs.Refusals.{refuse}
-use Rattle.cg_session.specs.declared.token.Behind.{Behind as BehindIt}
+use Rattle.cg_session.specs.declared.token.BehindErr.{BehindErr}
 use Rattle.cg_session.specs.Token.{Token, new_token, wrote, raises, replied}
 use Rattle.cg_session_list.specs.declared.session.Session.{Session}
 use Rattle.cg_session_list.specs.declared.session_line.SessionLine.{SessionLine}
@@ -44,7 +44,7 @@ abbrev pub opened : List Session → ℕ → List Session
 opened sessions s = sessions ++ record { id = s; token = new_token } ∷ []
 
 -- a replica is read, at its position, unless it is behind what the session has seen
-abbrev pub read_as : List Session → ℕ → Answer → ℕ → Result Token BehindIt → SessionsNoted
+abbrev pub read_as : List Session → ℕ → Answer → ℕ → Result Token BehindErr → SessionsNoted
 read_as sessions s answer pos (Ok token) =
     record { sessions = changing s (λ old. token) sessions; lines = Answered s answer pos ∷ [] }
 read_as sessions s answer pos (Err b) = record { sessions = sessions; lines = Behind s b.have b.want ∷ [] }

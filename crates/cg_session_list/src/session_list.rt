@@ -10,7 +10,7 @@ use crate::{Session, SessionLine};
 use cg_action::Answer;
 use cg_base::{ActionId, NoMemory, Row};
 use cg_group::Reason;
-use cg_session::{Behind, Token};
+use cg_session::{BehindErr, Token};
 use std::alloc::Global;
 use std::marker::Model;
 
@@ -146,7 +146,7 @@ fn read_by(token: &mut Token, s: u8, answer: Answer, pos: u64) -> SessionLine
 {
     match token.read(pos) {
         Ok(()) => SessionLine::Answered { s, answer, at: pos },
-        Err(Behind { have, want }) => SessionLine::Behind { s, have, want },
+        Err(BehindErr { have, want }) => SessionLine::Behind { s, have, want },
     }
 }
 
