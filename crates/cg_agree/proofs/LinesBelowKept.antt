@@ -60,7 +60,6 @@ use Rattle.cg_agree_lemmas.specs.StepMakes.{IsOwnNow}
 
 -- ---- the actions that a turn makes
 
--- each is of the replica, and has its green count as its line
 record MakesMine (old : Held) (t : Turn) : Type 0 where
   pub id : t.replica.held.id ≡ old.id
   pub count : green_count t.replica.held.queue ≡ green_count old.queue

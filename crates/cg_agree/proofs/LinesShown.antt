@@ -188,7 +188,6 @@ each-find P t (x ∷ xs) s each e = elim (cases_Bool (t x)) [
   | inr other ↦ each-find P t xs s each.1 (sym (cond-false (t x) (Some x) (find t xs) other) ∙ e)
 ]
 
--- the last line, if it is of one that is up, is the last one of it up
 -- the last line of a replica that is up
 pub up-shown : (w : World) (steps : List Step) → ((p : ℕ) → printed w p ≡ last_line p steps) → ArePrinted w → (p : ℕ) (r : Replica) → replica_of w p ≡ Some r → IsSomeWith (last_up p steps) (λ up. up.view ≡ view_of r.held)
 up-shown w steps shown stand p r runs = at (node_of w p) refl runs where

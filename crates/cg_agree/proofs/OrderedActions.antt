@@ -19,8 +19,6 @@ use Rattle.cg_agree.proofs.OrderReached.{order-named}
 use Rattle.cg_base.specs.ElementLaws.{each-contains}
 use Rattle.cg_model.specs.MadeLaws.{names-from}
 
--- ---- names
-
 -- ---- actions of the book
 
 module _ (steps : List Step) (c : Chronicle) (w : World) (stands : StandsBeside c w) (told : IsMadeTold steps c w) where

@@ -16,7 +16,6 @@ use Rattle.cg_agree.proofs.TellsRun.{has-told, tells}
 use Rattle.cg_agree.proofs.RunPrefix.{comes}
 use Rattle.cg_model.specs.RunLaws.{world-last, chronicle-last, world_of, chronicle_of}
 
--- the world and the chronicle behind the steps of a run
 -- a step behind the earlier ones of a run
 pub record IsStepAt (earlier : List Step) (s : Step) : Type 0 where
   pub before : IsRunFrom no_world earlier

@@ -80,7 +80,6 @@ apart-down c d p life group nodes told =
       replica = λ q other. nodes q ∙ replica-set c.world p life q ∙ cond-false (q == p) (running life) (replica_of c.world q) other;
     }
 
--- the replica itself
 -- ---- a crash
 
 crash-life : (c : Chronicle) (p : ℕ) (s : Node) (l : NodeState) → s.life ≡ l → is_some (running s.life) ≡ true → TalkFacts c → TalkFacts (crash_as c p l)

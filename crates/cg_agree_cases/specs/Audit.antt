@@ -98,7 +98,6 @@ failing_at_end c =
 
 -- ---- runs
 
--- each of the replicas with weight 1
 -- the chronicle so far, the world that the events lead to, which stands beside it, and the facts that failed where the first
 -- ones did
 pub record Tried : Type 0 where

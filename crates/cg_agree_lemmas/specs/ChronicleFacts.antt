@@ -57,6 +57,7 @@ past-begun (x ∷ pasts) new q absent =
       swapped true false x y o h = refl
       swapped false b x y o h = refl
 
+-- what a node runs, where it is the one that was set
 pub replica_of-set : (w : World) (p : ℕ) (life : NodeState) → replica_of (set_life w p life) p ≡ running life
 replica_of-set w p life =
     ap (λ (o : Option Node). option_and_then (λ s. running s.life) o)

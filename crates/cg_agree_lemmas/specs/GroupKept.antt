@@ -165,7 +165,6 @@ alone-sound c d p is now which step old = ⊎_elim
     (λ e. let at = subst (λ x. OneStep c d p x 0 is) e step in sound-one c d p Alone 0 is at tt (λ k out. absurd (let clash : false ≡ true = out in cc)) old)
     (λ e. let at = subst (λ x. OneStep c d p x 0 is) e step in sound-one c d p Down 0 is at tt (λ k out. absurd (let clash : false ≡ true = out in cc)) old) which
 
--- a chronicle with another world
 pub begins-step : (c : Chronicle) (set : List Weighted) (w : World) (p : ℕ) → OneStep (with_world c w) (with_world c (begin_replica set w p)) p Alone 0 true
 begins-step c set w p = record {
   stands = stands-up w.group p;

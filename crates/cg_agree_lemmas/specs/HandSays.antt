@@ -92,7 +92,6 @@ sent-go_on t conf heard accepted =
 abbrev pub messages : QueueView → List Item → List Msg
 messages q items = flat_map (λ item. option_to_list (message_of q item)) items
 
--- the replica has the actions of a part
 pub record OnlyItems (list : List Msg) : Type 0 where
   pub summary : filter_map summary_in list ≡ []
   pub announcement : filter_map announcer_in list ≡ []

@@ -18,7 +18,6 @@ use Rattle.cg_agree_lemmas.specs.TurnRows.{IsRule, of-deliveries}
 use Rattle.cg_agree_lemmas.specs.DiskAhead.{IsUnnoted, IsFurther, OwnRuns, StaysBehind, further-refl, nil-more, stays-rule}
 use Rattle.cg_model.specs.RowLaws.{any-deliveries}
 
--- any action may come
 -- ---- who has left
 
 abbrev IsLeftEmpty : Turn → Type 0

@@ -55,7 +55,6 @@ pub record IsBehind (start : List Weighted) (heard : List Summary) (low n : ℕ)
 
 -- ---- marks of what is held
 
--- what is held behind an action that is red at the next index
 -- an action becomes red that is the next of its creator
 red-next : (t : Turn) (a : Action) → is_unmade t.replica.held a ≡ false → a.id.index ≡ suc (index_in t.replica.held.queue.red_cut a.id.creator) →
     (mark_red t a).replica.held ≡ known_by t.replica.held a

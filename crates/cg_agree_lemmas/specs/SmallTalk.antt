@@ -39,7 +39,6 @@ conf-there g (suc n) p h = (
       (λ le. le) (cases_lt (length g.configurations) (suc n)),
 )
 
--- a replica is shown as itself
 pub within-phase : (c : Chronicle) (q k : ℕ) (phase : Phase) → phase_of c.world.group q ≡ phase → IsPhase c q (delivered_to c.world.group q) phase → is_regular_at k phase ≡ true →
     delivered_to c.world.group q ≤ length (ordered_in c k)
 within-phase c q k Down at is here = absurd (let clash : false ≡ true = here in cc)

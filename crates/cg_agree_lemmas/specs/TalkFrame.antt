@@ -101,6 +101,7 @@ module _ (c d : Chronicle) (same : SameTalk c d) where
     modes = λ x. subst (λ (y : Phase). IfSome (replica_of d.world x) (IsStateIn d x y)) (sym (same.phase x)) (some-same x (replica_of c.world x) (replica_of d.world x) (same.replica x) (old.modes x));
   }
 
+-- a replica is shown as itself
 pub shown-itself : (o : Option Replica) → IsShownAs o o
 shown-itself None = tt
 shown-itself (Some r) = (refl, refl)

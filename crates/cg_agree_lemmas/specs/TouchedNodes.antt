@@ -32,7 +32,6 @@ use Rattle.cg_agree_lemmas.specs.DiskSwaps.{Swaps, downgrade-swaps, recover_unde
 use Rattle.cg_client.specs.Joined.{piece_count}
 use Rattle.cg_model.specs.NodeLaws.{snapshot-joiner}
 
--- the snapshot of which pieces are taken is one of this joiner
 module _ (q : ℕ) where
   pub record Stays (w v : World) : Type 0 where
     pub node : node_of v q ≡ node_of w q

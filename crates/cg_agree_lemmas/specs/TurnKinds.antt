@@ -133,7 +133,6 @@ installed-then a b e one two = record {
 
 -- ---- the end of a plan
 
--- the state of an exchange
 exchanging-not : (state : State) → is_exchanging state ≡ true → (is_attempting state ≡ false) × (is_primary state ≡ false)
 exchanging-not (ExchangeStates conf set heard) e = (refl, refl)
 exchanging-not (ExchangeActions conf heard accepted) e = (refl, refl)

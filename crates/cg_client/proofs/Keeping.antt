@@ -36,7 +36,6 @@ Each-with_red P (b ∷ reds) a here all = elim (cases_Bool (id_before a.id b.id)
 
 -- ---- cuts
 
--- each index of a cut is within its limits
 -- ---- names
 
 named : (reds : List Action) (id : ActionId) → Each IsAction reds → has_name (names_of reds) id ≡ true → IsName id

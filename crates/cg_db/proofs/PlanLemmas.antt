@@ -19,7 +19,6 @@ use Rattle.cg_db.specs.Apply.{Ran, Changed, Aborts, Overflows, Applied, run_comm
 use Rattle.cg_db.specs.Plan.{set_option, changed, with_changes, left_by}
 use Rattle.cg_db.proofs.ViewLemmas.{value_of-set}
 
--- what a call that succeeded ensures
 -- ---- commands
 
 run_one : (old db : List DbEntry) (i : ℕ) (cmds : List Cmd) (cmd : Cmd) → i < length cmds → get_or cmds i cmd ≡ cmd

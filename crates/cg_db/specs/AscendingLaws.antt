@@ -71,6 +71,7 @@ Ascends-filter p [] up = tt
 Ascends-filter p (e ∷ db) up =
     Ascends-kept e (filter p db) (IsBefore-filter p db e.key up.0 up.1) (Ascends-filter p db up.1) (p e)
 
+-- each key comes before this one
 abbrev pub EachBefore : List ℕ → List DbEntry → Type 0
 EachBefore key [] = Unit {0}
 EachBefore key (e ∷ db) = (text_before e.key key ≡ true) × EachBefore key db

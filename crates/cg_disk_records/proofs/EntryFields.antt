@@ -130,7 +130,6 @@ entry-utf8 last e old new read =
     let key = passed-ok is_key old.at (take_text 64 old) first.0 first.1 passed.0 in
     rw (← same.0) (IsUtf8-from_is_utf8 first.0 (text-utf8 64 first.0 old first.1 key.0))
 
--- each key comes before this one
 EachBefore-push : (key : List ℕ) (db : List DbEntry) (e : DbEntry) → EachBefore key db → text_before e.key key ≡ true → EachBefore key (db ++ e ∷ [])
 EachBefore-push key [] e before one = (one, tt)
 EachBefore-push key (x ∷ db) e before one = (before.0, EachBefore-push key db e before.1 one)

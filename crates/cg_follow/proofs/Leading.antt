@@ -12,7 +12,6 @@ use Rattle.cg_follow.specs.Stands.{led_by, follower_on}
 use Rattle.cg_follow.specs.Laws.{RecordsAreExact, RecordsLead, FeedsGoOn}
 use Rattle.cg_db.specs.FoldLaws.{fold_actions_from-append}
 
--- the database behind two lists of actions
 pub feeds-go-on : FeedsGoOn
 feeds-go-on first next = rw (length-append first next, fold_actions_from-append [] first next) refl
 

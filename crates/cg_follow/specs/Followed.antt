@@ -10,7 +10,6 @@ pub record Followed : Type 0 where
   pub cursor : ℕ
   pub db : List DbEntry
 
--- the database behind these actions
 -- the follower behind the next actions of the order
 abbrev pub fed : Followed → List Action → Followed
 fed f actions = record { cursor = f.cursor + length actions; db = fold_actions_from f.db actions }

@@ -31,7 +31,7 @@ impl Model for Taken {
 impl Taken {
     ghost use Rattle.cg_follow.specs.Followed.{fed};
 
-    /// Takes the next actions. Where memory is refused some of them may have been fold_actions_from.
+    /// Takes the next actions. Where memory is refused some of them may have been applied.
     pub(crate) fn take(&mut self, actions: &[Action]) -> Result<(), NoMemory>
         requires { Each IsAction actions.now }
         ensures { OnOk result (self.new ≡ fed self.old actions.now) }

@@ -26,7 +26,6 @@ found-contains t (y ∷ xs) x e = elim (cases_Bool (t y)) [
   | inr other ↦ Contains-append_right (y ∷ []) xs x (found-contains t xs x (sym (cond-false (t y) (Some y) (find t xs) other) ∙ e))
 ]
 
--- the last line, if it is of one that is up, is the last one of it up
 pub record IsLastLine (steps : List Step) (p : ℕ) (r : Replica) : Type 0 where
   pub up : UpLine
   pub last : last_up p steps ≡ Some up

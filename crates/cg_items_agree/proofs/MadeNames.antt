@@ -56,7 +56,6 @@ made-names steps (id ∷ ids) each =
 
 -- ---- one step more
 
--- what was made stays as it was made
 pub own-later : (a b : List Step) (list : List Action) → AreOf (made_action a) list → AreOf (made_action (a ++ b)) list
 own-later a b [] each = tt
 own-later a b (x ∷ list) each = (

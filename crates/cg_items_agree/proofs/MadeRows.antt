@@ -16,7 +16,6 @@ use Rattle.cg_items.specs.Relaxing.{with_step}
 use Rattle.cg_made_rows.specs.RowLaws.{row-same, row-other}
 use Rattle.cg_model.specs.MadeRowLaws.{AreRowsOf, next-append, made_by-own, made_by-other}
 
--- each creator's row has those that it made, in their order
 -- the rows behind steps
 abbrev pub rows_of : List (List Action) → List Step → List (List Action)
 rows_of rows steps = fold with_step rows steps

@@ -63,7 +63,6 @@ made-in r kind creating = at r.state creating where
   at (No conf heard) e = absurd (let clash : false ≡ true = e in cc)
   at Un e = absurd (let clash : false ≡ true = e in cc)
 
--- what a node runs, where it is the one that was set
 -- the event of a request to this replica
 module _ (w : World) (p : ℕ) (kind : Kind) (r : Replica) (disk : Disk) (node : node_of w p ≡ Some (up_node p r disk)) (mine : r.held.id ≡ p) (creating : is_creating r.state ≡ true) where
   abbrev t : Turn

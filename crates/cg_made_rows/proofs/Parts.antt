@@ -44,7 +44,6 @@ long_enough-ok (Ok u) t e =
     (ap (λ (v : List ℕ). Ok v) g.1, rw (← g.1) (leb-true 1 (length u) g.0))
 long_enough-ok (Err fault) t e = absurd cc
 
--- what was read_as is told by the answer
 -- a part was read: it is spelled by the first token
 record Found {X : Type 0} (Is : X → Type 0) (spelling : X → List ℕ) (ts : List (List ℕ)) (x : X) (left : List (List ℕ))
     : Type 0 where

@@ -31,8 +31,6 @@ line_of-without (s ∷ servers) p q apart = elim (cases_eq s.id p) [
   | inr stays ↦ rw (ne_eqb s.id p stays) (ap (λ n. cond (eqb s.id q) s.line n) (line_of-without servers p q apart))
 ]
 
--- ---- the line that is raised
-
 -- ---- the law
 
 joined-keeps : (m : Members) (p weight place q : ℕ) → is_server m q ≡ true → line_of m.servers q ≤ line_of (with_joiner m p weight place).servers q

@@ -8,6 +8,7 @@ use Rattle.cg_base.specs.Lists.{row_at}
 use Rattle.cg_action.specs.declared.action.Action.{Action}
 use Rattle.cg_model.specs.Making.{made_by, AreNextOf}
 
+-- each creator's row has those that it made, in their order
 abbrev pub AreRowsOf : List Action → List (List Action) → Type 0
 AreRowsOf made rows = (p : ℕ) → row_at rows p ≡ made_by p made
 

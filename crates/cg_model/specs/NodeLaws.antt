@@ -250,6 +250,7 @@ up_there (s ∷ nodes) all on =
 pub up_begun : (w : World) → Each (λ q. has_begun w q ≡ true) (up_replicas w)
 up_begun w = up_there w.nodes w.nodes (λ q is. is)
 
+-- the snapshot of which pieces are taken is one of this joiner
 pub snapshot-joiner : (w : World) (p joiner : ℕ) (r : Replica) → (snapshot_for w p joiner r).joiner ≡ joiner
 snapshot-joiner w p joiner r = at (find (λ s. (s.joiner == joiner) && (s.giver == p)) w.snapshots) refl where
   new : TransferState

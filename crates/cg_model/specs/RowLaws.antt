@@ -349,6 +349,7 @@ any-delivery (Message place from m) = any-message m
 any-delivery (TransitionalIn conf set) = tt
 any-delivery (RegularIn conf set) = tt
 
+-- any action may come
 pub any-deliveries : (list : List (Delivery Msg)) → Each (OfDelivery (λ a. Unit {0})) list
 any-deliveries [] = tt
 any-deliveries (d ∷ list) = (any-delivery d, any-deliveries list)

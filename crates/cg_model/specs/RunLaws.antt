@@ -32,6 +32,7 @@ order-append a b =
     ap (map (λ (o : Placed). o.id)) (flat-append (λ (s : Step). s.entry.orders) a b)
     ∙ map-append (λ (o : Placed). o.id) (order_lines a) (order_lines b)
 
+-- the world and the chronicle behind the steps of a run
 abbrev pub world_of : List Step → World
 world_of steps = world_after no_world steps
 

@@ -44,6 +44,7 @@ pub one-below : (p id : ℕ) (u o : Option UpLine) → count_of (cond (id == p) 
 one-below p id None o = cond_both (id == p) o o (λ x. count_of x ≤ max (count_of o) 0) (λ y. omega arith) (λ n. omega arith)
 one-below p id (Some up) o = cond_both (id == p) (Some up) o (λ x. count_of x ≤ max (count_of o) (max 0 up.view.green_count)) (λ y. omega arith) (λ n. omega arith)
 
+-- the last line, if it is of one that is up, is the last one of it up
 abbrev pub IsLastUp : Option Line → Option UpLine → Type 0
 IsLastUp last up = IfSome last (λ l. IfSome l.up (λ u. up ≡ Some u))
 

@@ -7,6 +7,7 @@ use Rattle.cg_base.specs.Cuts.{with_top, raise}
 use Rattle.cg_base.specs.Lists.{Each}
 use Rattle.cg_records.specs.Limits.{IsIndex}
 
+-- each index of a cut is within its limits
 abbrev pub Indexed : List ActionId → Type 0
 Indexed cut = Each (λ top. IsIndex top.index) cut
 

@@ -65,7 +65,6 @@ small-added old new a cmds short each known sums is_cut next small before = reco
       | inr apart ↦ rw (ne_eqb a.id.creator p apart, ne_eqb p a.id.creator (λ e. apart (sym e))) (before.sums key p)
     ]
 
--- no creator's sums are far from 0
 -- ---- a join
 
 joined-sum : (less : Bool) (mine other first all : Option ℤ) → first ≡ cond (not less) (option_or mine None) None →

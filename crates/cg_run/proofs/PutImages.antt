@@ -29,7 +29,6 @@ image-at view status.Done p w d given = λ disk is.
     ((view d).reads, subst (λ (held : Disk). IsImageOf p held (view d).reads) same given.2.image, refl)
 image-at view other p w d given = tt
 
--- a replica that hasn't begun has no disk
 -- the image of the world that is left is put
 pub put-world : (p : ℕ) (here : World) (v v1 : SinkView) (st : Status) → PutsImage p here v v1 st → (w : World) → Some here ≡ Some w → PutsImage p w v v1 st
 put-world p here v v1 st put w is = subst (λ (w : World). PutsImage p w v v1 st) (let one : Some here ≡ Some w = is in cc) put

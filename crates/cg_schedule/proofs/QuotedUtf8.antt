@@ -28,7 +28,6 @@ escaped_ascii byte small = by_special (is_special byte) where
   by_special true = ascii_then 92 (byte ∷ []) (omega arith) (ascii_then byte [] small IsUtf8-nil)
   by_special false = ascii_then byte [] small IsUtf8-nil
 
--- a byte that is no character by itself stands as it is
 one_char : (c : ℕ) → scalar c ≡ true → IsUtf8 (flat_map escaped (encode c))
 one_char c ok = elim (cases_lt c 128) [
   | inl small ↦ rw (encode_ascii c small, append-nil (escaped c)) (escaped_ascii c small)

@@ -31,8 +31,6 @@ pub record TextFacts : Type 0 where
   pub signed : IsSpelling (FitsSigned w64) signed_decimal read_i64
   pub quotes : (max : ℕ) → IsSpelling (λ t. IsUtf8 t × (is_printable t ≡ true) × (length t ≤ max)) quoted (read_quoted max)
 
--- ---- tests
-
 -- ---- numbers
 
 pub number_token : TextFacts → (low high : ℕ) → high < 2 ^ 64 → IsToken (IsWithin low high) decimal (number low high)

@@ -32,7 +32,6 @@ pub record Known : Type 0 where
 
 -- ---- numbers
 
--- what was read_as is told by the answer
 module _ (known : Known) where
   pub id_found : (ts : List (List ℕ)) (n : ℕ) (left : List (List ℕ)) → id_part ts ≡ Ok (n, left) → IsId n ×
       (ts ≡ decimal n ∷ left)

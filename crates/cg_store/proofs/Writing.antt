@@ -89,6 +89,5 @@ lost_closing id call side before closed u old new is first second =
 
 -- ---- moments
 
--- no call was made
 pub stands_at_rest : (id : ℕ) (d : DiskView) (u : OnDisk) (c : Image) → IsAtRest d → Stands id d.reads u → d.may_leave c → Stands id c u
 stands_at_rest id d u c rest is left = ap (λ x. stands_for id (records x)) (rest.only c left) ∙ is

@@ -9,7 +9,6 @@ use lib.Utf8.{encode, encodes}
 use Rattle.cg_text.specs.Quoted.{escaped}
 use Rattle.cg_text.specs.QuotedLaws.{escaped_plain, escaped-high}
 
--- bytes that are no characters by themselves stand as they are
 -- a character that isn't special stands as it is
 pub plain_char : (c : ℕ) → c ≢ 34 → c ≢ 92 → flat_map escaped (encode c) ≡ encode c
 plain_char c quote backslash = elim (cases_lt c 128) [

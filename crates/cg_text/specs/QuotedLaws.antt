@@ -7,6 +7,7 @@ use Rattle.cg_text.specs.Quoted.{escaped}
 pub escaped_plain : (byte : ℕ) → byte ≢ 34 → byte ≢ 92 → escaped byte ≡ byte ∷ []
 escaped_plain byte quote backslash = rw (ne_eqb byte 34 quote, ne_eqb byte 92 backslash) refl
 
+-- bytes that are no characters by themselves stand as they are
 pub escaped-high : (bytes : List ℕ) → ((k : ℕ) → k < length bytes → 128 ≤ get_or bytes k 0) → flat_map escaped bytes ≡ bytes
 escaped-high [] high = refl
 escaped-high (byte ∷ bytes) high =

@@ -7,7 +7,6 @@ pub use Rattle.cg_base.specs.Lists.{row_at}
 use Rattle.cg_action.specs.declared.action.Action.{Action}
 use Rattle.cg_model.specs.Making.{made_by}
 
--- each creator's row has those that it made, in their order
 -- the action in the place of this name's number among those of its creator
 abbrev pub action_at : List Action → ActionId → Option Action
 action_at made id = at_place (made_by id.creator made) id.index

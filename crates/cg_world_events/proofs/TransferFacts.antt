@@ -74,7 +74,6 @@ taken-out p joiner list i d e =
 
 -- ---- its pieces
 
--- it is for the joiner
 pub chosen-down : (old new : World) (p joiner : ℕ) (s : TransferState) → Chooses old new p joiner (Some s) → is_up old.group joiner ≡ false → is_up new.group s.joiner ≡ false
 chosen-down old new p joiner s chosen down =
     ap (λ (w : World). is_up w.group s.joiner) chosen.3 ∙ ap (λ (x : TransferState). is_up old.group x.joiner) chosen.2 ∙ ap (is_up old.group) (snapshot-joiner old p joiner chosen.0) ∙ down
